@@ -1,0 +1,1 @@
+// Big-endian numbers in slices.
