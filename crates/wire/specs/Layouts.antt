@@ -8,7 +8,7 @@
 --   request flags type handle offset length
 --   simpleReply error handle
 use Prim.Native.Nat.{ℕ}
-use mathlib.Core.Bool.{Bool, true, false}
+use mathlib.Core.Bool.{Bool}
 use mathlib.Core.List.{List, [], _++_}
 use lib.ListN.{length, replicate}
 use Rattle.machine.specs.Choice.{pick}
@@ -19,8 +19,13 @@ use Rattle.wire.specs.Constants.{NBDMAGIC, IHAVEOPT, OLDSTYLE, NBD-OPT-R
 unfoldable pub greeting : List ℕ
 greeting = NBDMAGIC ++ IHAVEOPT ++ be 2 3
 
+-- the fields before the data, which has n bytes
+unfoldable pub optionReplyHead : ℕ → ℕ → ℕ → List ℕ
+optionReplyHead option type n = be 8 NBD-OPT-REPLY-MAGIC ++ be 4 option ++ be 4 type ++ be 4 n
+
 unfoldable pub optionReply : ℕ → ℕ → List ℕ → List ℕ
-optionReply option type data′ = be 8 NBD-OPT-REPLY-MAGIC ++ be 4 option ++ be 4 type ++ be 4 (length data′) ++ data′
+unfolding optionReplyHead
+optionReply option type data′ = optionReplyHead option type (length data′) ++ data′
 
 abbrev pub zeros : List ℕ
 zeros = replicate 124 0

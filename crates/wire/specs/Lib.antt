@@ -6,3 +6,5 @@ pub mod Utf8
 pub mod Grammar
 pub mod Table
 pub mod Lookup
+pub mod Found
+pub mod Walk

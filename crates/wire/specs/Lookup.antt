@@ -22,11 +22,16 @@ startedIn zero rs len = []
 startedIn (suc k) [] len = false ∷ startedIn k [] len
 startedIn (suc k) (r ∷ rs) len = eqb (length (r .name)) len ∷ startedIn k rs len
 
-abbrev pub started : List Record → ℕ → List Bool
+unfoldable pub started : List Record → ℕ → List Bool
 started rs len = startedIn 32 rs len
 
 abbrev pub has : Record → ℕ → ℕ → Bool
 has r i b = both (ltb i (length (r .name))) (eqb (getD (r .name) i 0) b)
+
+-- a part of a name, at the place i of the record's
+abbrev pub hasAll : Record → ℕ → List ℕ → Bool
+hasAll r i [] = true
+hasAll r i (b ∷ bs) = both (has r i b) (hasAll r (suc i) bs)
 
 abbrev pub narrowed : List Record → ℕ → ℕ → List Bool → List Bool
 narrowed rs i b [] = []
@@ -59,6 +64,6 @@ abbrev pub word : List Bool → ℕ
 word [] = 0
 word (x ∷ xs) = digit x + 2 * word xs
 
-abbrev pub bits : ℕ → ℕ → List Bool
+unfoldable pub bits : ℕ → ℕ → List Bool
 bits zero w = []
 bits (suc k) w = eqb (w % 2) 1 ∷ bits k (w / 2)

@@ -1,5 +1,5 @@
 -- The export table, read as a list of records.
---   Record          an export, as its record has it
+--   Record, blank   an export, as its record has it; zeros and no name
 --   front l         what stands at the front of l: nothing, a record and what is behind it, or no record
 --   records t       the records of the table t
 --   fault n t       the number of its first fault for an image of n bytes, 20 to 25; 0 where it is sound
@@ -13,10 +13,10 @@ use mathlib.Core.Bool.{Bool, true}
 use mathlib.Core.List.{List, [], _∷_, _++_}
 use lib.Dec.{eqb, ltb, leb}
 use lib.ListN.{length, getD, take, drop}
-use Rattle.machine.specs.Choice.{pick, both}
+use Rattle.machine.specs.Choice.{pick, both, between}
 use Rattle.wire.specs.Fields.{be, field, Bytes}
 use Rattle.wire.specs.Constants.{NBD-FLAG-HAS-FLAGS, NBD-FLAG-READ-ONLY, NBD-FLAG-SEND-FLUSH, NBD-FLAG-ROTATIONAL, NBD-FLAG-SEND-TRIM, NBD-FLAG-SEND-RESIZE}
-use Rattle.wire.specs.Utf8.{between, valid}
+use Rattle.wire.specs.Utf8.{valid}
 use Rattle.wire.specs.declared.table.Checked.{Checked}
 use Rattle.wire.specs.declared.table.Checked.the-variants.{Sound as IsSound, Version, Length, Count, Window, Flags, Name}
 
@@ -25,6 +25,9 @@ pub record Record : Type 0 where
   pub size : ℕ
   pub flags : ℕ
   pub name : List ℕ
+
+abbrev pub blank : Record
+blank = record { start = 0; size = 0; flags = 0; name = [] }
 
 -- ---- "records, each with its length first: two bytes L (17 to 4,113) counting what follows: start (8), size (8), flags (1), name (L-17 bytes)"
 pub data Front : Type 0 where
@@ -49,11 +52,11 @@ listed nothing more = []
 listed broken more = []
 listed (entry r l) more = r ∷ more l
 
-abbrev pub recordsIn : ℕ → List ℕ → List Record
+unfoldable pub recordsIn : ℕ → List ℕ → List Record
 recordsIn zero l = []
 recordsIn (suc k) l = listed (front l) (recordsIn k)
 
-abbrev pub records : List ℕ → List Record
+unfoldable pub records : List ℕ → List Record
 records t = recordsIn 32 (drop 1 t)
 
 -- ---- the first fault: "The first faulty record decides; in it: 22, 21, 24, 25, 23"
@@ -70,7 +73,7 @@ judged n broken more = 21
 judged n (entry r l) more = first (recordFault n r) (more l)
 
 -- with at most k records more
-abbrev pub faults : ℕ → ℕ → List ℕ → ℕ
+unfoldable pub faults : ℕ → ℕ → List ℕ → ℕ
 faults n zero [] = 0
 faults n zero (b ∷ l) = 22
 faults n (suc k) l = judged n (front l) (faults n k)

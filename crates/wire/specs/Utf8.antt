@@ -2,17 +2,13 @@
 --   next s b    the state after one byte more
 --   run s bs    the state after these bytes
 --   whole s     whether a text may end here: it is not cut inside a character, and nothing was bad
--- Grammar.antt has RFC 3629's own grammar on whole lists; that the two accept the same is `accepts` of proofs/Utf8.antt.
+-- Grammar.antt has RFC 3629's own grammar on whole lists; that the two accept the same is `accepts` of proofs/Utf8Laws.antt.
 use Prim.Native.Nat.{ℕ}
 use mathlib.Core.Bool.{Bool, true, false}
 use mathlib.Core.List.{List, [], _∷_}
-use lib.Dec.{leb}
-use Rattle.machine.specs.Choice.{pick, both}
+use Rattle.machine.specs.Choice.{pick, between}
 use Rattle.wire.specs.declared.utf8.Utf8.{Utf8}
 use Rattle.wire.specs.declared.utf8.Utf8.the-variants.{Start, Tail1, Tail2, Tail3, AfterE0, AfterED, AfterF0, AfterF4, Bad}
-
-abbrev pub between : ℕ → ℕ → ℕ → Bool
-between lo hi b = both (leb lo b) (leb b hi)
 
 -- "Lead C2..DF, then one tail byte; E0 then A0..BF; ED then 80..9F; other E1..EF; F0 then 90..BF; F1..F3; F4 then 80..8F"
 unfoldable pub lead : ℕ → Utf8

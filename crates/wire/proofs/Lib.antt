@@ -1,0 +1,14 @@
+pub mod BigEndian
+pub mod Numbers
+pub mod Between
+pub mod Utf8Ends
+pub mod Utf8Leads
+pub mod Utf8Laws
+pub mod Tests
+pub mod Words
+pub mod Found
+pub mod Fronts
+pub mod Soundness
+pub mod Places
+pub mod Walks
+pub mod Sieves

@@ -1,0 +1,73 @@
+-- What the code's values stand for as it walks a table.
+--   recordAt t e    the record that an entry of the table t stands for
+--   entryAt t i n   the entry of the record after the length n at the place i
+--   FrontAt t i f   f is what the code finds at the place i of t
+--   exportOf r      what an export's session needs of its record
+--   Goes            how the check of a table goes on after what stands at a place
+--   sieve, passed   a set that is made record by record: before the first, and after one more
+use Prim.Native.Nat.{ℕ, _+_, _-_, _*_, _/_, _%_, _≤_}
+use mathlib.Core.Path.{_≡_}
+use mathlib.Core.Bool.{Bool}
+use mathlib.Core.List.{List}
+use lib.Dec.{eqb}
+use lib.ListN.{length, getD, take, drop}
+use Rattle.machine.specs.Choice.{pick, both}
+use Rattle.wire.specs.Fields.{field}
+use Rattle.wire.specs.Table.{Record, Front, nothing, broken, entry, front, judged, faultOf}
+use Rattle.wire.specs.declared.table.Export.{Export}
+use Rattle.wire.specs.declared.table.Entry.{Entry}
+use Rattle.wire.specs.declared.table.Front.{Front as CodeFront}
+use Rattle.wire.specs.declared.table.Front.the-variants.{End, Broken, Record as IsRecord}
+use Rattle.wire.specs.declared.table.Judged.{Judged}
+use Rattle.wire.specs.declared.table.Judged.the-variants.{Stop, Go}
+use Rattle.wire.specs.declared.lookup.Sieve.{Sieve}
+
+abbrev pub recordAt : List ℕ → Entry → Record
+recordAt t e =
+    record { start = e .export .start; size = e .export .size; flags = e .export .flags; name = take (e .len) (drop (e .name) t) }
+
+-- the entry of a record of n bytes, after the length at i
+abbrev pub entryAt : List ℕ → ℕ → ℕ → Entry
+entryAt t i n = record {
+  export = record { start = field t (i + 2) 8; size = field t (i + 2 + 8) 8; flags = getD t (i + 2 + 16) 0 };
+  name = i + 2 + 17;
+  len = n - 17;
+  next = i + 2 + n;
+}
+
+abbrev pub frontOf : List ℕ → CodeFront → Front
+frontOf t End = nothing
+frontOf t Broken = broken
+frontOf t (IsRecord e) = entry (recordAt t e) (drop (e .next) t)
+
+pub record Inside (t : List ℕ) (e : Entry) : Type 0 where
+  pub ends : e .name + e .len ≡ e .next
+  pub within : e .next ≤ length t
+
+abbrev pub InsideOf : List ℕ → CodeFront → Type 0
+InsideOf t End = Unit {0}
+InsideOf t Broken = Unit {0}
+InsideOf t (IsRecord e) = Inside t e
+
+pub record FrontAt (t : List ℕ) (i : ℕ) (f : CodeFront) : Type 0 where
+  pub reads : frontOf t f ≡ front (drop i t)
+  pub inside : InsideOf t f
+
+abbrev pub exportOf : Record → Export
+exportOf r = record { start = r .start; size = r .size; flags = r .flags }
+
+-- ---- the check
+abbrev pub goesOn : List ℕ → Judged → (List ℕ → ℕ) → ℕ
+goesOn t (Stop c) more = faultOf c
+goesOn t (Go i) more = more (drop i t)
+
+-- ---- the set: what is known of it, the digits of the old one that are left, and the weight of the next
+abbrev pub sieve : ℕ → Sieve
+sieve set = record { left = set; weight = 1; done = 0 }
+
+-- the next record adds its weight, if it was in the old set and fits
+abbrev pub share : Sieve → Bool → ℕ
+share s fits = pick (both (eqb (s .left % 2) 1) fits) (s .weight) 0
+
+abbrev pub passed : Sieve → Bool → Sieve
+passed s fits = record { left = s .left / 2; weight = s .weight * 2; done = s .done + share s fits }
