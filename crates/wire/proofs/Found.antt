@@ -1,8 +1,11 @@
 -- What a lookup finds.
+--   length-started, length-narrowed   a set has 32 Bools, and keeps them
 --   narrowed-parts   a name in two parts narrows as the whole does
 --   found-changing   tables that change from step to step (the set's record k at the end)
 --   found-first      one table: what is chosen is the first record of that name
 --   found-none       one table: nothing is chosen exactly where no record has that name
+--   lookup-first, lookup-none   the same of what `started`, `narrowed` and `lowest` of the code ensure, one after the other
+--   became-longer    the example of a record that has become longer
 use Prim.Native.Nat.{ℕ, zero, suc, _+_, _≤_, _<_}
 use mathlib.Core.Path.{_≡_, refl, ap, sym, _∙_}
 use mathlib.Core.Bool.{Bool, true, false}
@@ -14,11 +17,31 @@ use lib.ListN.{length, getD}
 use lib.Seq.{ext-getD}
 use lib.Dec.{eqb, ltb}
 use borrow.Author.Tests.{eq-eqb, eqb-true, ltb-true, lt-ltb}
-use Rattle.machine.specs.Choice.{both}
-use Rattle.wire.specs.Table.{Record, blank}
-use Rattle.wire.specs.Lookup.{startedIn, started, has, narrowed, narrowedBy, chosen, later}
-use Rattle.wire.proofs.Tests.{both-true, both-left, both-right}
+use Rattle.wire.specs.Table.{Record, records}
+use Rattle.wire.specs.Lookup.{startedIn, started, has, narrowed, narrowedBy, chosen, later, word, bits}
 use Rattle.wire.specs.Found.{nameOf, Named, First, Step, narrowedUnder, Long, HasByte, Stays}
+use Rattle.wire.proofs.Walks.{records-few}
+use Rattle.wire.proofs.Words.{bits-word}
+use Rattle.wire.proofs.Tests.{both-true, both-left, both-right}
+
+-- ---- 32 Bools
+length-started-in : (k : ℕ) (rs : List Record) (len : ℕ) → length (startedIn k rs len) ≡ k
+length-started-in zero rs len = refl
+length-started-in (suc k) [] len = ap suc (length-started-in k [] len)
+length-started-in (suc k) (r ∷ rs) len = ap suc (length-started-in k rs len)
+
+pub length-started : (rs : List Record) (len : ℕ) → length (started rs len) ≡ 32
+unfolding started
+length-started rs len = length-started-in 32 rs len
+
+length-once : (rs : List Record) (i b : ℕ) (set : List Bool) → length (narrowed rs i b set) ≡ length set
+length-once rs i b [] = refl
+length-once [] i b (x ∷ set) = ap suc (length-once [] i b set)
+length-once (r ∷ rs) i b (x ∷ set) = ap suc (length-once rs i b set)
+
+pub length-narrowed : (rs : List Record) (i : ℕ) (bs : List ℕ) (set : List Bool) → length (narrowedBy rs i bs set) ≡ length set
+length-narrowed rs i [] set = refl
+length-narrowed rs i (b ∷ bs) set = length-narrowed rs (suc i) bs (narrowed rs i b set) ∙ length-once rs i b set
 
 -- ---- a name in parts
 pub narrowed-parts : (rs : List Record) (i : ℕ) (a b : List ℕ) (set : List Bool)
@@ -109,7 +132,8 @@ stays-bytes rs i [] k s j h = absurd (omega arith)
 stays-bytes rs i (b ∷ bs) k s zero h = let e : i + 0 ≡ i = omega arith in rw e (s .0 .byte)
 stays-bytes rs i (b ∷ bs) k s (suc j) h = let e : i + suc j ≡ suc i + j = omega arith in rw e (stays-bytes rs (suc i) bs k (s .1) j (omega arith))
 
-bytes-stay : (rs : List Record) (i : ℕ) (bs : List ℕ) (k : ℕ) → ((j : ℕ) → j < length bs → HasByte rs k (i + j) (getD bs j 0)) → Stays i (map (under rs) bs) k
+bytes-stay : (rs : List Record) (i : ℕ) (bs : List ℕ) (k : ℕ)
+    → ((j : ℕ) → j < length bs → HasByte rs k (i + j) (getD bs j 0)) → Stays i (map (under rs) bs) k
 bytes-stay rs i [] k s = tt
 bytes-stay rs i (b ∷ bs) k s =
     let e : i + 0 ≡ i = omega arith in
@@ -197,10 +221,35 @@ module _ (rs : List Record) (name : List ℕ) (few : length rs ≤ 32) where
     λ n. out-chosen (final rs name) (λ k i. n k (in-final rs name k i)),
   )
 
+-- ---- what the code's answers say together
+module _ (t name : List ℕ) where
+  abbrev asked : Option ℕ
+  asked = chosen (bits 32 (word (narrowedBy (records t) 0 name (bits 32 (word (started (records t) (length name)))))))
+
+  as-sets : asked ≡ chosen (narrowedBy (records t) 0 name (started (records t) (length name)))
+  as-sets =
+      let set = started (records t) (length name) in
+      let l : length set ≡ 32 = length-started (records t) (length name) in
+      rw (bits-word set 32 l) (ap chosen (bits-word (narrowedBy (records t) 0 name set) 32 (length-narrowed (records t) 0 name set ∙ l)))
+
+  pub lookup-first : (k : ℕ) → (chosen (bits 32 (word (narrowedBy (records t) 0 name (bits 32 (word (started (records t) (length name))))))) ≡ some k)
+      ↔ First (records t) name k
+  lookup-first k = rw as-sets (found-first (records t) name (records-few t) k)
+
+  pub lookup-none : (chosen (bits 32 (word (narrowedBy (records t) 0 name (bits 32 (word (started (records t) (length name))))))) ≡ none)
+      ↔ ((k : ℕ) → Named (records t) k name → ⊥)
+  lookup-none = rw as-sets (found-none (records t) name (records-few t))
+
 -- ---- started with "ab" and "a" taken, then "b" under a table with "abc": chosen
 abbrev only : List ℕ → List Record
 only name = record { start = 0; size = 0; flags = 0; name = name } ∷ []
 
-became-longer : chosen (narrowedUnder 0 (under (only (0x61 ∷ 0x62 ∷ [])) 0x61 ∷ under (only (0x61 ∷ 0x62 ∷ 0x63 ∷ [])) 0x62 ∷ []) (started (only (0x61 ∷ 0x62 ∷ [])) 2)) ≡ some 0
+abbrev ab : List Record
+ab = only (0x61 ∷ 0x62 ∷ [])
+
+abbrev abc : List Record
+abc = only (0x61 ∷ 0x62 ∷ 0x63 ∷ [])
+
+pub became-longer : chosen (narrowedUnder 0 (under ab 0x61 ∷ under abc 0x62 ∷ []) (started ab 2)) ≡ some 0
 unfolding started
 became-longer = refl

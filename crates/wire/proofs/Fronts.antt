@@ -1,24 +1,25 @@
 -- What stands at the front of a list of bytes.
---   front-empty    nothing only where there is no byte
---   front-record   a record's bytes, with the record's ranges
---   front-sized    a list that is not empty begins with a length
---   sized-fits     what a length that fits gives
+--   Fits l n       the length n, at the front of l, is in range and not past the end
+--   sized-fits     what such a length gives
 --   sized-broken   any other length is a fault
+--   front-sized    a list that is not empty begins with a length
+--   front-empty    nothing only where there is no byte
+--   front-record   a record's bytes stand there, with the record's ranges (Stands)
 --   front-bytes    the bytes of a record, with whatever behind them, are read as that record
-use Prim.Native.Nat.{ℕ, zero, suc, _+_, _-_, _*_, _^_, _≤_, _<_}
+use Prim.Native.Nat.{ℕ, _+_, _-_, _^_, _≤_, _<_}
 use mathlib.Core.Path.{_≡_, refl, ap, sym, _∙_}
 use mathlib.Core.Bool.{Bool, true, false}
 use mathlib.Core.List.{List, [], _∷_, _++_, append-assoc}
 use native.Mathlib.Omega.{arith}
 use lib.ListN.{length, getD, take, drop, length-append, length-take, length-drop, take-append-drop}
-use lib.Seq.{take-at, drop-at, drop-drop, drop-cons, take-add, getD-drop}
+use lib.Seq.{take-at, drop-at, drop-drop, drop-cons}
 use lib.Dec.{leb}
 use borrow.Author.Tests.{le-leb, leb-true}
-use Rattle.machine.specs.Choice.{pick, both, between}
+use Rattle.machine.specs.Choice.{pick, between}
 use Rattle.wire.specs.Fields.{be, number, field, Bytes}
-use Rattle.wire.specs.Table.{Record, Front, nothing, broken, entry, recordOf, sized, front, recordBytes}
+use Rattle.wire.specs.Table.{Record, nothing, broken, entry, recordOf, fits, sized, front, recordBytes}
 use Rattle.wire.proofs.Tests.{both-left, both-right}
-use Rattle.wire.proofs.BigEndian.{length-be, number-be, be-number, number-lt, bytes-take, bytes-drop, field-lt}
+use Rattle.wire.proofs.BigEndian.{length-be, number-be, be-number, bytes-take, bytes-drop, field-lt}
 
 -- a field at the front, and what is behind it
 be-front : (n : ℕ) (l : List ℕ) → Bytes l → n ≤ length l → be n (number (take n l)) ++ drop n l ≡ l
@@ -57,11 +58,43 @@ body-of-record m b h =
     let f : be 8 (number (take 8 m)) ++ drop 8 m ≡ m = be-front 8 m b (omega arith) in
     rw (← c, ← d, e) f
 
+-- ---- the length
+pub record Fits (l : List ℕ) (n : ℕ) : Type 0 where
+  pub low : 17 ≤ n
+  pub high : n ≤ 4113
+  pub within : 2 + n ≤ length l
+
+fits-true : (l : List ℕ) (n : ℕ) → fits l n ≡ true → Fits l n
+fits-true l n e =
+    let range = both-left (between 17 4113 n) (leb (2 + n) (length l)) e in
+    record {
+      low = leb-true 17 n (both-left (leb 17 n) (leb n 4113) range);
+      high = leb-true n 4113 (both-right (leb 17 n) (leb n 4113) range);
+      within = leb-true (2 + n) (length l) (both-right (between 17 4113 n) (leb (2 + n) (length l)) e);
+    }
+
+pub sized-fits : (l : List ℕ) (n : ℕ) → Fits l n → sized l n ≡ entry (recordOf (take n (drop 2 l))) (drop (2 + n) l)
+unfolding sized
+sized-fits l n f = rw (le-leb 17 n (f .low), le-leb n 4113 (f .high), le-leb (2 + n) (length l) (f .within))
+
+pub sized-broken : (l : List ℕ) (n : ℕ) → (Fits l n → ⊥) → sized l n ≡ broken
+unfolding sized
+sized-broken l n unfit = go (fits l n) refl
+  where
+    go : (t : Bool) → fits l n ≡ t → pick t (entry (recordOf (take n (drop 2 l))) (drop (2 + n) l)) broken ≡ broken
+    go true e = absurd (unfit (fits-true l n e))
+    go false e = refl
+
 -- ---- the front
+pub front-sized : (l : List ℕ) → 0 < length l → front l ≡ sized l (field l 0 2)
+unfolding front
+front-sized [] h = absurd (omega arith)
+front-sized (b ∷ l) h = refl
+
 pub front-empty : (l : List ℕ) → front l ≡ nothing → l ≡ []
 unfolding front
 front-empty [] e = refl
-front-empty (b ∷ l) e = absurd (go (both (between 17 4113 (field (b ∷ l) 0 2)) (leb (2 + field (b ∷ l) 0 2) (length (b ∷ l)))) _ _ e)
+front-empty (b ∷ l) e = absurd (go (fits (b ∷ l) (field (b ∷ l) 0 2)) _ _ e)
   where
     go : (t : Bool) (r : Record) (m : List ℕ) → pick t (entry r m) broken ≡ nothing → ⊥
     go true r m e = let z : _≡_ {A = ℕ} 0 1 = cc in omega arith
@@ -75,8 +108,8 @@ pub record Stands (l : List ℕ) (r : Record) (m : List ℕ) : Type 0 where
   pub name-bytes : Bytes (r .name)
   pub rest-bytes : Bytes m
 
-reads : (l : List ℕ) (n : ℕ) → Bytes l → field l 0 2 ≡ n → 17 ≤ n → n ≤ 4113 → 2 + n ≤ length l → Stands l (recordOf (take n (drop 2 l))) (drop (2 + n) l)
-reads l n b e lo hi fits =
+reads : (l : List ℕ) (n : ℕ) → Bytes l → field l 0 2 ≡ n → Fits l n → Stands l (recordOf (take n (drop 2 l))) (drop (2 + n) l)
+reads l n b e f =
     let body = take n (drop 2 l) in
     let k : length body ≡ n = length-take n (drop 2 l) ∙ omega (arith, length-drop 2 l) in
     let bb : Bytes body = bytes-take n (drop 2 l) (bytes-drop 2 l b) in
@@ -107,32 +140,8 @@ unfolding front
 front-record [] r m b e = let z : _≡_ {A = ℕ} 0 1 = cc in absurd (omega arith)
 front-record (x ∷ l) r m b e =
     let n = field (x ∷ l) 0 2 in
-    let w = picked (both (between 17 4113 n) (leb (2 + n) (length (x ∷ l)))) _ r _ m e in
-    let range = both-left (between 17 4113 n) (leb (2 + n) (length (x ∷ l))) (w .test) in
-    rw (← w .same, ← w .rest)
-    (reads (x ∷ l) n b refl (leb-true 17 n (both-left (leb 17 n) (leb n 4113) range)) (leb-true n 4113 (both-right (leb 17 n) (leb n 4113) range))
-    (leb-true (2 + n) (length (x ∷ l)) (both-right (between 17 4113 n) (leb (2 + n) (length (x ∷ l))) (w .test))))
-
-pub front-sized : (l : List ℕ) → 0 < length l → front l ≡ sized l (field l 0 2)
-unfolding front
-front-sized [] h = absurd (omega arith)
-front-sized (b ∷ l) h = refl
-
-pub sized-fits : (l : List ℕ) (n : ℕ) → 17 ≤ n → n ≤ 4113 → 2 + n ≤ length l → sized l n ≡ entry (recordOf (take n (drop 2 l))) (drop (2 + n) l)
-unfolding sized
-sized-fits l n lo hi fits = rw (le-leb 17 n lo, le-leb n 4113 hi, le-leb (2 + n) (length l) fits)
-
-pub sized-broken : (l : List ℕ) (n : ℕ) → (17 ≤ n → n ≤ 4113 → 2 + n ≤ length l → ⊥) → sized l n ≡ broken
-unfolding sized
-sized-broken l n unfit = go (both (between 17 4113 n) (leb (2 + n) (length l))) refl
-  where
-    go : (t : Bool) → both (between 17 4113 n) (leb (2 + n) (length l)) ≡ t → pick t (entry (recordOf (take n (drop 2 l))) (drop (2 + n) l)) broken ≡ broken
-    go true e =
-        let range = both-left (between 17 4113 n) (leb (2 + n) (length l)) e in
-        absurd
-        (unfit (leb-true 17 n (both-left (leb 17 n) (leb n 4113) range)) (leb-true n 4113 (both-right (leb 17 n) (leb n 4113) range))
-        (leb-true (2 + n) (length l) (both-right (between 17 4113 n) (leb (2 + n) (length l)) e)))
-    go false e = refl
+    let w = picked (fits (x ∷ l) n) _ r _ m e in
+    rw (← w .same, ← w .rest) (reads (x ∷ l) n b refl (fits-true (x ∷ l) n (w .test)))
 
 pub front-bytes : (r : Record) (l : List ℕ) → r .start < 2 ^ 64 → r .size < 2 ^ 64 → length (r .name) ≤ 4096 → front (recordBytes r ++ l) ≡ entry r l
 front-bytes r l hs hz hn =
@@ -145,5 +154,5 @@ front-bytes r l hs hz hn =
     let behind : drop 2 t ≡ bodyBytes r ++ l = drop-at (be 2 n) (bodyBytes r ++ l) 2 two in
     let rest : drop (2 + n) t ≡ l = sym (drop-drop n 2 t) ∙ ap (drop n) behind ∙ drop-at (bodyBytes r) l n body in
     rw record-body
-    (front-sized t (omega arith) ∙ ap (sized t) head ∙ sized-fits t n (omega arith) (omega arith) (omega arith)
+    (front-sized t (omega arith) ∙ ap (sized t) head ∙ sized-fits t n (omega arith)
     ∙ rw (behind, rest, take-at (bodyBytes r) l n body, record-of-body r hs hz))

@@ -6,9 +6,9 @@ pub mod Utf8Leads
 pub mod Utf8Laws
 pub mod Tests
 pub mod Words
-pub mod Found
 pub mod Fronts
 pub mod Soundness
 pub mod Places
 pub mod Walks
 pub mod Sieves
+pub mod Found

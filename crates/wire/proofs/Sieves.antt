@@ -5,19 +5,20 @@
 --   narrowed-none      no byte, no change
 --   has-all-same       a record has all the bytes of a part where the same bytes stand in its name
 --   has-all-long       it has not where the part passes the name's end
+--   sieved-lt          the word of a sieve over 32 digits
 --   Sieving            what holds of the walk: what is known and what is due make the whole
 --   sieve-start, sieve-turn, sieve-fits, sieve-end   the walk over records
---   table-turn, table-fits, table-nothing, table-broken, table-out   the walk over a table's places
+--   table-turn, table-fits, table-none, table-out   the walk over a table's places
 use Prim.Native.Nat.{ℕ, zero, suc, _+_, _-_, _*_, _/_, _%_, _^_, _≤_, _<_}
-use mathlib.Core.Path.{_≡_, refl, ap, sym, _∙_}
+use mathlib.Core.Path.{_≡_, refl, ap, _∙_}
 use mathlib.Core.Bool.{Bool, true, false}
 use mathlib.Core.List.{List, [], _∷_}
 use native.Mathlib.Omega.{arith}
 use native.Mathlib.Nat.{pow-suc, pow-succ', one-le-pow, mul-add, mul-assoc, mul-le-mul-left}
-use lib.ListN.{length, getD, take, drop}
+use lib.ListN.{length, take, drop}
 use lib.Seq.{drop-cons}
-use lib.Dec.{eqb, ltb}
-use borrow.Author.Tests.{eq-eqb, lt-ltb, le-ltb}
+use lib.Dec.{eqb}
+use borrow.Author.Tests.{lt-ltb, le-ltb}
 use Rattle.machine.specs.Choice.{pick, both}
 use Rattle.wire.specs.Fields.{sameBytes}
 use Rattle.wire.specs.Table.{Record, recordsIn}
@@ -26,9 +27,9 @@ use Rattle.wire.specs.Walk.{recordAt, FrontAt, sieve, passed}
 use Rattle.wire.specs.declared.lookup.Sieve.{Sieve}
 use Rattle.wire.specs.declared.table.Front.{Front as CodeFront}
 use Rattle.wire.specs.declared.table.Entry.{Entry}
-use Rattle.wire.specs.declared.table.Front.the-variants.{End, Broken, Record as IsRecord}
-use Rattle.wire.proofs.Places.{found}
-use Rattle.wire.proofs.Walks.{records-turn, records-nothing, records-broken, records-out}
+use Rattle.wire.specs.declared.table.Front.the-variants.{Record as IsRecord}
+use Rattle.wire.proofs.Places.{found, Ends, found-none}
+use Rattle.wire.proofs.Walks.{records-turn, records-out}
 use Rattle.wire.proofs.Words.{word-lt, length-bits}
 
 abbrev pub sieved : (Record → Bool) → List Record → List Bool → List Bool
@@ -89,7 +90,8 @@ narrowed-cons rs i b (c ∷ bs) set =
     ∙ ap (sieved (λ r. hasAll r (suc i) (c ∷ bs)) rs) (narrowed-once rs i b set)
     ∙ sieved-twice (λ r. has r i b) (λ r. hasAll r (suc i) (c ∷ bs)) rs set
 
-pub narrowed-sieved : (rs : List Record) (i : ℕ) (part : List ℕ) (set : List Bool) → 0 < length part → narrowedBy rs i part set ≡ sieved (λ r. hasAll r i part) rs set
+pub narrowed-sieved : (rs : List Record) (i : ℕ) (part : List ℕ) (set : List Bool) → 0 < length part
+    → narrowedBy rs i part set ≡ sieved (λ r. hasAll r i part) rs set
 narrowed-sieved rs i [] set h = absurd (omega arith)
 narrowed-sieved rs i (b ∷ bs) set h = narrowed-cons rs i b bs set
 
@@ -173,19 +175,17 @@ module _ {p : Record → Bool} {whole k i : ℕ} {t : List ℕ} {s : Sieve} (w :
   here : {f : CodeFront} {e : Entry} → FrontAt t i f → f ≡ IsRecord e → 0 < k → Sieving p whole k (recordAt t e ∷ recordsIn (k - 1) (drop (e .next) t)) s
   here {e = e} f q h = rw (records-turn k (drop i t) (found f (IsRecord e) q) h) at w
 
-  pub table-turn : {f : CodeFront} {e : Entry} → FrontAt t i f → f ≡ IsRecord e → 0 < k → {fits : Bool} {s′ : Sieve} → s′ ≡ passed s fits → fits ≡ p (recordAt t e)
-      → Sieving p whole (k - 1) (recordsIn (k - 1) (drop (e .next) t)) s′
+  pub table-turn : {f : CodeFront} {e : Entry} → FrontAt t i f → f ≡ IsRecord e → 0 < k
+      → {fits : Bool} {s′ : Sieve} → s′ ≡ passed s fits → fits ≡ p (recordAt t e) → Sieving p whole (k - 1) (recordsIn (k - 1) (drop (e .next) t)) s′
   table-turn f q h a b = rw (a, b) (sieve-turn (here f q h) h)
 
   pub table-fits : {f : CodeFront} {e : Entry} → FrontAt t i f → f ≡ IsRecord e → 0 < k → {fits : Bool} → fits ≡ p (recordAt t e) → whole < 2 ^ 32
       → (s .weight < 2 ^ 32) × (passed s fits .done < 2 ^ 32)
   table-fits f q h b small = rw b (sieve-fits (here f q h) h small)
 
-  pub table-nothing : {f : CodeFront} → FrontAt t i f → f ≡ End → s .done ≡ whole
-  table-nothing f q = sieve-end w (records-nothing k (drop i t) (found f End q))
+  pub table-none : {f g : CodeFront} → FrontAt t i f → f ≡ g → Ends g → s .done ≡ whole
+  table-none f q h = sieve-end w (found-none f q h k)
 
-  pub table-broken : {f : CodeFront} → FrontAt t i f → f ≡ Broken → s .done ≡ whole
-  table-broken f q = sieve-end w (records-broken k (drop i t) (found f Broken q))
-
-pub table-out : {p : Record → Bool} {whole k : ℕ} {s : Sieve} (i : ℕ) (t : List ℕ) → Sieving p whole k (recordsIn k (drop i t)) s → k ≤ 0 → s .done ≡ whole
+pub table-out : {p : Record → Bool} {whole k : ℕ} {s : Sieve} (i : ℕ) (t : List ℕ) → Sieving p whole k (recordsIn k (drop i t)) s → k ≤ 0
+    → s .done ≡ whole
 table-out {k = k} i t w h = sieve-end w (records-out k (drop i t) h)

@@ -1,21 +1,23 @@
 -- What the check of a table accepts.
 --   sound-table    a table with no fault is the bytes of its records, and these are sound
 --   table-sound    the bytes of sound records are a table with no fault, and are read as these records
+--   sound-at       a sound list's record k is sound
+--   window-at      its window lies in the image, also where there is no record k
 --   fault-range    a fault is 20 to 25
 use Prim.Native.Nat.{ℕ, zero, suc, _+_, _≤_, _<_}
-use mathlib.Core.Path.{_≡_, refl, ap, sym, _∙_}
+use mathlib.Core.Path.{_≡_, refl, ap, _∙_}
 use mathlib.Core.Bool.{Bool, true, false}
 use mathlib.Core.List.{List, [], _∷_, _++_}
 use mathlib.Core.Logic.{_⊎_, inl, inr}
 use native.Mathlib.Omega.{arith}
-use lib.ListN.{length, drop}
+use lib.ListN.{length, getD}
 use lib.Dec.{eqb, ltb, leb}
 use borrow.Author.Tests.{ltb-true, lt-ltb, leb-true, le-leb, eqb-true}
 use Rattle.machine.specs.Choice.{pick}
 use Rattle.wire.specs.Fields.{Bytes}
 use Rattle.wire.specs.Utf8.{valid}
-use Rattle.wire.specs.Table.{Record, Front, nothing, broken, entry, front, listed, recordsIn, records, recordFault, first, judged, faults, fault, recordBytes, recordsBytes, tableBytes, SoundRecord, Each, Sound}
-use Rattle.wire.proofs.Fronts.{Stands, front-empty, front-record, front-bytes}
+use Rattle.wire.specs.Table.{Record, blank, Front, nothing, broken, entry, front, listed, recordsIn, records, recordFault, first, judged, faults, fault, recordBytes, recordsBytes, tableBytes, SoundRecord, Each, Sound}
+use Rattle.wire.proofs.Fronts.{front-empty, front-record, front-bytes}
 
 -- ---- one record
 record Passes (n : ℕ) (r : Record) : Type 0 where
@@ -26,7 +28,8 @@ record Passes (n : ℕ) (r : Record) : Type 0 where
 passes : (n : ℕ) (r : Record) → recordFault n r ≡ 0 → Passes n r
 passes n r e = go (ltb (r .flags) 16) (valid (r .name)) (leb (r .start + r .size) n) refl refl refl e
   where
-    go : (f v w : Bool) → ltb (r .flags) 16 ≡ f → valid (r .name) ≡ v → leb (r .start + r .size) n ≡ w → pick {A = ℕ} f (pick v (pick w 0 23) 25) 24 ≡ 0 → Passes n r
+    go : (f v w : Bool) → ltb (r .flags) 16 ≡ f → valid (r .name) ≡ v → leb (r .start + r .size) n ≡ w
+        → pick {A = ℕ} f (pick v (pick w 0 23) 25) 24 ≡ 0 → Passes n r
     go true true true a b c e = record { flags = a; text = b; window = c }
     go true true false a b c e = absurd (omega arith)
     go true false w a b c e = absurd (omega arith)
@@ -93,7 +96,8 @@ read-back n zero [] h s = refl
 read-back n (suc k) [] h s = refl
 read-back n zero (r ∷ rs) h s = absurd (omega arith)
 read-back n (suc k) (r ∷ rs) h s =
-    rw (front-bytes r (recordsBytes rs) (s .0 .start-fits) (s .0 .size-fits) (s .0 .short-name)) (ap (λ (t : List Record). r ∷ t) (read-back n k rs (omega arith) (s .1)))
+    rw (front-bytes r (recordsBytes rs) (s .0 .start-fits) (s .0 .size-fits) (s .0 .short-name))
+    (ap (λ (t : List Record). r ∷ t) (read-back n k rs (omega arith) (s .1)))
 
 -- ---- a table
 versioned : (v f : ℕ) → pick (eqb v 1) f 20 ≡ 0 → (v ≡ 1) × (f ≡ 0)
@@ -114,6 +118,23 @@ sound-table n (v ∷ l) b e =
 pub table-sound : (n : ℕ) (rs : List Record) → Sound n rs → (fault n (tableBytes rs) ≡ 0) × (records (tableBytes rs) ≡ rs)
 unfolding fault records
 table-sound n rs s = (faultless n 32 rs (s .at-most) (s .each), read-back n 32 rs (s .at-most) (s .each))
+
+-- ---- record k
+each-at : (n : ℕ) (rs : List Record) → Each n rs → (k : ℕ) → k < length rs → SoundRecord n (getD rs k blank)
+each-at n [] s k h = absurd (omega arith)
+each-at n (r ∷ rs) s zero h = s .0
+each-at n (r ∷ rs) s (suc k) h = each-at n rs (s .1) k (omega arith)
+
+pub sound-at : {n : ℕ} {rs : List Record} → Sound n rs → (k : ℕ) → k < length rs → SoundRecord n (getD rs k blank)
+sound-at {n} {rs} s k h = each-at n rs (s .each) k h
+
+windows : (n : ℕ) (rs : List Record) → Each n rs → (k : ℕ) → getD rs k blank .start + getD rs k blank .size ≤ n
+windows n [] s k = omega arith
+windows n (r ∷ rs) s zero = s .0 .window
+windows n (r ∷ rs) s (suc k) = windows n rs (s .1) k
+
+pub window-at : {n : ℕ} {rs : List Record} → Sound n rs → (k : ℕ) → getD rs k blank .start + getD rs k blank .size ≤ n
+window-at {n} {rs} s k = windows n rs (s .each) k
 
 -- ---- the numbers
 abbrev InRange : ℕ → Type 0

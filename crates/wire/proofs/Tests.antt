@@ -1,14 +1,13 @@
 -- Laws of tests.
 --   both-true, both-left, both-right   `both` is true exactly where its two tests are
---   pick-le    what is picked is at most the sum of the two
 --   leb-same   two orders that imply each other have the same test
-use Prim.Native.Nat.{ℕ, _+_, _≤_}
+use Prim.Native.Nat.{ℕ, _≤_}
 use mathlib.Core.Path.{_≡_, refl}
 use mathlib.Core.Bool.{Bool, true, false}
 use native.Mathlib.Omega.{arith}
 use lib.Dec.{leb}
 use borrow.Author.Tests.{leb-true, leb-false}
-use Rattle.machine.specs.Choice.{pick, both}
+use Rattle.machine.specs.Choice.{both}
 
 pub both-true : {a b : Bool} → a ≡ true → b ≡ true → both a b ≡ true
 both-true p q = rw (p, q)
@@ -29,7 +28,3 @@ leb-same a b c d to from = go (leb a b) (leb c d) refl refl
     go true false p q = absurd (omega (arith, to (leb-true a b p), leb-false c d q))
     go false true p q = absurd (omega (arith, from (leb-true c d q), leb-false a b p))
     go false false p q = refl
-
-pub pick-le : (t : Bool) (a b : ℕ) → pick t a b ≤ a + b
-pick-le true a b = omega arith
-pick-le false a b = omega arith

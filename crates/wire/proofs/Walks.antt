@@ -3,17 +3,18 @@
 --   faults-turn                what stands at a place, and what is behind it
 --   faults-more, faults-done   after the last turn: a byte more begins the 33rd record
 --   records-turn               the records from a place on, where one stands
---   records-nothing, records-broken, records-out   where none does, and after the last turn
+--   records-out                after the last turn
+--   records-few                there are at most 32
 --   getD-first, getD-later     an element of a list with one in front
 use Prim.Native.Nat.{ℕ, zero, suc, _-_, _≤_, _<_}
-use mathlib.Core.Path.{_≡_, refl, ap, sym, _∙_}
+use mathlib.Core.Path.{_≡_, refl}
 use mathlib.Core.List.{List, [], _∷_}
 use native.Mathlib.Omega.{arith}
 use lib.ListN.{length, getD, drop, drop-of-length-le}
 use lib.Seq.{drop-cons}
 use borrow.Author.Tests.{eq-eqb, ne-eqb}
-use Rattle.wire.specs.Table.{Record, nothing, broken, entry, front, listed, recordsIn, records, judged, faults, fault, faultOf}
-use Rattle.wire.specs.Walk.{goesOn}
+use Rattle.wire.specs.Table.{Record, Front, nothing, broken, entry, front, listed, recordsIn, records, judged, faults, fault}
+use Rattle.wire.specs.Walk.{goesOn, Goes}
 use Rattle.wire.specs.declared.table.Judged.{Judged}
 
 -- ---- the check
@@ -32,7 +33,7 @@ unfolding fault
 fault-start n [] h = absurd (omega arith)
 fault-start n (v ∷ l) h = rw (eq-eqb v 1 h)
 
-pub faults-turn : (n k i : ℕ) (t : List ℕ) {j g : Judged} → j ≡ g → ((more : List ℕ → ℕ) → goesOn t j more ≡ judged n (front (drop i t)) more) → 0 < k
+pub faults-turn : (n k i : ℕ) (t : List ℕ) {j g : Judged} → j ≡ g → Goes t j (judged n (front (drop i t))) → 0 < k
     → goesOn t g (faults n (k - 1)) ≡ faults n k (drop i t)
 unfolding faults
 faults-turn n zero i t q e h = absurd (omega arith)
@@ -51,16 +52,6 @@ faults-done n zero i t k h = rw (drop-of-length-le t h)
 faults-done n (suc k) i t z h = absurd (omega arith)
 
 -- ---- the records
-pub records-nothing : (k : ℕ) (l : List ℕ) → front l ≡ nothing → recordsIn k l ≡ []
-unfolding recordsIn
-records-nothing zero l e = refl
-records-nothing (suc k) l e = rw e
-
-pub records-broken : (k : ℕ) (l : List ℕ) → front l ≡ broken → recordsIn k l ≡ []
-unfolding recordsIn
-records-broken zero l e = refl
-records-broken (suc k) l e = rw e
-
 pub records-out : (k : ℕ) (l : List ℕ) → k ≤ 0 → recordsIn k l ≡ []
 unfolding recordsIn
 records-out zero l h = refl
@@ -70,6 +61,20 @@ pub records-turn : (k : ℕ) (l : List ℕ) {r : Record} {m : List ℕ} → fron
 unfolding recordsIn
 records-turn zero l e h = absurd (omega arith)
 records-turn (suc k) l e h = let q : suc k - 1 ≡ k = omega arith in rw (e, q)
+
+records-in-few : (k : ℕ) (l : List ℕ) → length (recordsIn k l) ≤ k
+unfolding recordsIn
+records-in-few zero l = omega arith
+records-in-few (suc k) l = go (front l) (records-in-few k)
+  where
+    go : (f : Front) → ((m : List ℕ) → length (recordsIn k m) ≤ k) → length (listed f (recordsIn k)) ≤ suc k
+    go nothing more = omega arith
+    go broken more = omega arith
+    go (entry r m) more = let h = more m in omega arith
+
+pub records-few : (t : List ℕ) → length (records t) ≤ 32
+unfolding records
+records-few t = records-in-few 32 (drop 1 t)
 
 pub getD-first : (r : Record) (rs : List Record) (k : ℕ) (d : Record) → k ≡ 0 → getD (r ∷ rs) k d ≡ r
 getD-first r rs zero d h = refl

@@ -4,8 +4,9 @@
 --   word-bits       a number is the word of its digits
 --   length-bits     as many digits as asked for
 --   chosen-bits     the number of the trailing zeros is the lowest one of the set, unless the set is empty
-use Prim.Native.Nat.{ℕ, zero, suc, _+_, _*_, _/_, _%_, _^_, _≤_, _<_}
-use mathlib.Core.Path.{_≡_, refl, ap, sym, _∙_}
+--   chosen-none     an empty set chooses nothing
+use Prim.Native.Nat.{ℕ, zero, suc, _+_, _*_, _/_, _%_, _^_, _<_}
+use mathlib.Core.Path.{_≡_, refl, ap}
 use mathlib.Core.Bool.{Bool, true, false}
 use mathlib.Core.List.{List, [], _∷_}
 use mathlib.Core.Option.{none, some}

@@ -1,6 +1,7 @@
 -- Lookup by a name that arrives a byte at a time and is never stored: the set of the exports that still fit it, a Bool for each of the 32
 -- records that a table may have.
 --   started rs len        "those whose names are that long"
+--   has r i b             the record's name has that byte at the place i; hasAll: those bytes from there on
 --   narrowed rs i b set   the byte b at the place i "clears each that differs there, lacks that byte or has no record in the table"
 --   narrowedBy rs i bs set   the bytes bs, from the place i on, one after the other
 --   chosen set            "the lowest one left"
@@ -12,7 +13,7 @@ use mathlib.Core.List.{List, [], _∷_}
 use mathlib.Core.Option.{Option, none, some}
 use lib.Dec.{eqb, ltb}
 use lib.ListN.{length, getD}
-use Rattle.machine.specs.Choice.{pick, both}
+use Rattle.machine.specs.Choice.{both}
 use Rattle.wire.specs.Table.{Record}
 use Rattle.wire.specs.declared.lookup.Chosen.{Chosen}
 use Rattle.wire.specs.declared.lookup.Chosen.the-variants.{Export, Nothing}
@@ -28,7 +29,6 @@ started rs len = startedIn 32 rs len
 abbrev pub has : Record → ℕ → ℕ → Bool
 has r i b = both (ltb i (length (r .name))) (eqb (getD (r .name) i 0) b)
 
--- a part of a name, at the place i of the record's
 abbrev pub hasAll : Record → ℕ → List ℕ → Bool
 hasAll r i [] = true
 hasAll r i (b ∷ bs) = both (has r i b) (hasAll r (suc i) bs)

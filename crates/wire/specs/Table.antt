@@ -38,8 +38,12 @@ pub data Front : Type 0 where
 abbrev pub recordOf : List ℕ → Record
 recordOf l = record { start = field l 0 8; size = field l 8 8; flags = getD l 16 0; name = drop 17 l }
 
+-- the length n, at the front of l, is in range and not past the end
+abbrev pub fits : List ℕ → ℕ → Bool
+fits l n = both (between 17 4113 n) (leb (2 + n) (length l))
+
 unfoldable pub sized : List ℕ → ℕ → Front
-sized l n = pick (both (between 17 4113 n) (leb (2 + n) (length l))) (entry (recordOf (take n (drop 2 l))) (drop (2 + n) l)) broken
+sized l n = pick (fits l n) (entry (recordOf (take n (drop 2 l))) (drop (2 + n) l)) broken
 
 unfoldable pub front : List ℕ → Front
 unfolding sized

@@ -1,10 +1,11 @@
 -- What the code's values stand for as it walks a table.
 --   recordAt t e    the record that an entry of the table t stands for
 --   entryAt t i n   the entry of the record after the length n at the place i
+--   Inside t e      the entry's name lies in the table, and the next record begins behind it
 --   FrontAt t i f   f is what the code finds at the place i of t
 --   exportOf r      what an export's session needs of its record
---   Goes            how the check of a table goes on after what stands at a place
---   sieve, passed   a set that is made record by record: before the first, and after one more
+--   Goes t j f      the check of the table t goes on by j as f says: with its answer, or with what is found from a place on
+--   sieve, share, passed   a set that is made record by record: before the first, what one adds, and after it
 use Prim.Native.Nat.{ℕ, _+_, _-_, _*_, _/_, _%_, _≤_}
 use mathlib.Core.Path.{_≡_}
 use mathlib.Core.Bool.{Bool}
@@ -13,7 +14,7 @@ use lib.Dec.{eqb}
 use lib.ListN.{length, getD, take, drop}
 use Rattle.machine.specs.Choice.{pick, both}
 use Rattle.wire.specs.Fields.{field}
-use Rattle.wire.specs.Table.{Record, Front, nothing, broken, entry, front, judged, faultOf}
+use Rattle.wire.specs.Table.{Record, Front, nothing, broken, entry, front, faultOf}
 use Rattle.wire.specs.declared.table.Export.{Export}
 use Rattle.wire.specs.declared.table.Entry.{Entry}
 use Rattle.wire.specs.declared.table.Front.{Front as CodeFront}
@@ -60,6 +61,9 @@ exportOf r = record { start = r .start; size = r .size; flags = r .flags }
 abbrev pub goesOn : List ℕ → Judged → (List ℕ → ℕ) → ℕ
 goesOn t (Stop c) more = faultOf c
 goesOn t (Go i) more = more (drop i t)
+
+abbrev pub Goes : List ℕ → Judged → ((List ℕ → ℕ) → ℕ) → Type 0
+Goes t j f = (more : List ℕ → ℕ) → goesOn t j more ≡ f more
 
 -- ---- the set: what is known of it, the digits of the old one that are left, and the weight of the next
 abbrev pub sieve : ℕ → Sieve

@@ -3,6 +3,7 @@
 use crate::fields;
 use crate::table::Entry;
 use crate::table::Front;
+use crate::table::MOST;
 use crate::table::front_at;
 ghost use mathlib.Core.Path.{_≡_};
 ghost use Prim.Native.Nat.{_^_, _<_};
@@ -18,10 +19,10 @@ pub enum Chosen {
 }
 
 // A set that is made record by record: the digits of the old one that are left, the next one's weight, and what is known of the new one.
-pub struct Sieve {
-    pub left: u32,
-    pub weight: u64,
-    pub done: u32,
+struct Sieve {
+    left: u32,
+    weight: u64,
+    done: u32,
 }
 
 impl Sieve {
@@ -84,7 +85,7 @@ pub fn started(table: &[u8], len: usize) -> u32
 {
     let mut s = Sieve::new(0xFFFF_FFFF);
     let mut at = 1;
-    let mut left: usize = 32;
+    let mut left = MOST;
     while 0 < left {
         let f = front_at(table, at);
         match f {
@@ -110,7 +111,7 @@ pub fn narrowed(set: u32, table: &[u8], at: usize, part: &[u8]) -> u32
     }
     let mut s = Sieve::new(set);
     let mut place = 1;
-    let mut left: usize = 32;
+    let mut left = MOST;
     while 0 < left {
         let f = front_at(table, place);
         match f {

@@ -1,15 +1,23 @@
 // The export table.
+use crate::consts::NBD_FLAG_HAS_FLAGS;
+use crate::consts::NBD_FLAG_READ_ONLY;
+use crate::consts::NBD_FLAG_ROTATIONAL;
+use crate::consts::NBD_FLAG_SEND_FLUSH;
+use crate::consts::NBD_FLAG_SEND_RESIZE;
+use crate::consts::NBD_FLAG_SEND_TRIM;
 use crate::fields;
 use crate::utf8::Utf8;
 ghost use mathlib.Core.Path.{_≡_};
-ghost use mathlib.Core.List.{List};
-ghost use Prim.Native.Nat.{ℕ, _+_, _≤_};
+ghost use Prim.Native.Nat.{_+_, _≤_};
 ghost use lib.ListN.{length, take, drop, getD};
 ghost use lib.Dec.{eqb, leb};
 ghost use Rattle.machine.specs.Choice.{pick};
-ghost use Rattle.wire.specs.Table.{front, records, blank, first, recordFault, judged, fault, faultOf, wireFlags};
+ghost use Rattle.wire.specs.Table.{entry, front, records, blank, judged, fault, faultOf, wireFlags};
 ghost use Rattle.wire.specs.Utf8.{valid};
-ghost use Rattle.wire.specs.Walk.{recordAt, entryAt, Inside, FrontAt, exportOf, goesOn};
+ghost use Rattle.wire.specs.Walk.{recordAt, entryAt, Inside, FrontAt, exportOf, Goes};
+
+// A table has at most so many records.
+pub const MOST: usize = 32;
 
 // What is wrong with a table first, if anything is: 01's numbers 20 to 25.
 pub enum Checked {
@@ -88,6 +96,7 @@ fn entry_at(table: &[u8], at: usize, n: usize) -> Entry
     }
 }
 
+// What stands at the place `at`.
 pub fn front_at(table: &[u8], at: usize) -> Front
     ensures { λ r. ⌜ FrontAt (now (table .entry)) at r ⌝ }
 {
@@ -111,7 +120,7 @@ pub fn front_at(table: &[u8], at: usize) -> Front
 }
 
 // How the check of a table goes on: an answer, or the place of the next record.
-pub enum Judged {
+enum Judged {
     Stop(Checked),
     Go(usize),
 }
@@ -137,7 +146,7 @@ fn window_fits(x: Export, image: usize) -> bool
 // The record e: its first fault, for an image of so many bytes, or what is behind it.
 fn record_judged(table: &[u8], e: Entry, image: usize) -> Judged
     requires { ⌜ Inside (now table) e ⌝ }
-    ensures { λ r. ⌜ ((more : List ℕ → ℕ) → goesOn (now (table .entry)) r more ≡ first (recordFault image (recordAt (now (table .entry)) e)) (more (drop (e .next) (now (table .entry))))) ⌝ }
+    ensures { λ r. ⌜ Goes (now (table .entry)) r (judged image (entry (recordAt (now (table .entry)) e) (drop (e .next) (now (table .entry))))) ⌝ }
 {
     let x = e.export;
     if 16 <= x.flags {
@@ -156,7 +165,7 @@ fn record_judged(table: &[u8], e: Entry, image: usize) -> Judged
 
 // What the check of a table finds at a place.
 fn judged_at(table: &[u8], at: usize, image: usize) -> Judged
-    ensures { λ r. ⌜ ((more : List ℕ → ℕ) → goesOn (now (table .entry)) r more ≡ judged image (front (drop at (now (table .entry)))) more) ⌝ }
+    ensures { λ r. ⌜ Goes (now (table .entry)) r (judged image (front (drop at (now (table .entry))))) ⌝ }
 {
     let f = front_at(table, at);
     match f {
@@ -177,7 +186,7 @@ pub fn check(table: &[u8], image: usize) -> Checked
         return Checked::Version;
     }
     let mut at = 1;
-    let mut left: usize = 32;
+    let mut left = MOST;
     while 0 < left {
         let j = judged_at(table, at, image);
         match j {
@@ -198,7 +207,7 @@ pub fn export_at(table: &[u8], k: usize) -> Export
     ensures { λ r. ⌜ r ≡ exportOf (getD (records (now (table .entry))) k blank) ⌝ }
 {
     let mut at = 1;
-    let mut left: usize = 32;
+    let mut left = MOST;
     let mut skip = k;
     while 0 < left {
         let f = front_at(table, at);
@@ -218,6 +227,7 @@ pub fn export_at(table: &[u8], k: usize) -> Export
     no_export()
 }
 
+// Where there is no record.
 fn no_export() -> Export
     ensures { λ r. ⌜ r ≡ exportOf blank ⌝ }
 {
@@ -230,7 +240,7 @@ fn no_export() -> Export
 
 // One of two numbers, by a binary digit.
 fn by_digit(digit: u8, one: u16, zero: u16) -> u16
-    ensures { λ r. ⌜ r ≡ pick (eqb digit 1) one zero ⌝ }
+    ensures { λ r. ⌜ (r ≡ pick (eqb digit 1) one zero) × (r ≤ one + zero) ⌝ }
 {
     if digit == 1 { one } else { zero }
 }
@@ -239,9 +249,9 @@ fn by_digit(digit: u8, one: u16, zero: u16) -> u16
 pub fn wire_flags(flags: u8) -> u16
     ensures { λ r. ⌜ r ≡ wireFlags flags ⌝ }
 {
-    let access = by_digit(flags % 2, 2, 4);
-    let resize = by_digit(flags / 2 % 2, 512, 0);
-    let rotational = by_digit(flags / 4 % 2, 16, 0);
-    let trim = by_digit(flags / 8 % 2, 32, 0);
-    1 + access + resize + rotational + trim
+    let access = by_digit(flags % 2, NBD_FLAG_READ_ONLY, NBD_FLAG_SEND_FLUSH);
+    let resize = by_digit(flags / 2 % 2, NBD_FLAG_SEND_RESIZE, 0);
+    let rotational = by_digit(flags / 4 % 2, NBD_FLAG_ROTATIONAL, 0);
+    let trim = by_digit(flags / 8 % 2, NBD_FLAG_SEND_TRIM, 0);
+    NBD_FLAG_HAS_FLAGS + access + resize + rotational + trim
 }

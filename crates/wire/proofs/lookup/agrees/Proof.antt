@@ -1,58 +1,46 @@
 -- the part of the name that is as long as the part asked for holds the same bytes, or is not there
-use Prim.Native.Nat.{ℕ, _+_, _-_}
+use Prim.Native.Nat.{_+_, _-_}
 use mathlib.Core.Path.{_≡_, sym, _∙_}
 use native.Mathlib.Omega.{arith}
 use lib.ListN.{length}
 use denote.Ref.{now}
+use borrow.Author.Needs.{needs}
 use Rattle.wire.specs.Walk.{recordAt}
 use Rattle.wire.proofs.Places.{name-length, name-part}
 use Rattle.wire.proofs.Sieves.{has-all-same, has-all-long}
-use borrow.Author.Needs.{needs}
 use Rattle.wire.proofs.lookup.agrees.Statement.{statement}
 use Rattle.wire.proofs.lookup.agrees.Tie as tie
-use Rattle.wire.proofs.lookup.agrees.Reads as reads
-use Rattle.wire.proofs.lookup.agrees.Lts as lts
-use Rattle.wire.proofs.fields.same.Reads as same-reads
 
--- src/lookup.rt:62:9
 returns : tie.Need-returns
 returns c =
     let a = c .before .before .before .args in
     let l = name-length (c .before .before .before .pre .0) in
     sym (has-all-long (recordAt (now (a .table)) (a .e)) (a .at) (now (a .part)) (c .before .before .before .pre .1) (omega arith))
 
--- src/lookup.rt:65:9
 returns-2 : tie.Need-returns-2
 returns-2 c =
     let a = c .before .before .before .before .args in
     let l = name-length (c .before .before .before .before .pre .0) in
     sym (has-all-long (recordAt (now (a .table)) (a .e)) (a .at) (now (a .part)) (c .before .before .before .before .pre .1) (omega arith))
 
--- src/lookup.rt:67:13
 add-a : tie.Need-add-a
 add-a c = search needs
 
--- src/lookup.rt:68:13
 add-b : tie.Need-add-b
 add-b c = search needs
 
--- src/lookup.rt:69:18
 sub-same : tie.Need-sub-same
 sub-same c = search needs
 
--- src/lookup.rt:69:18
 part-same-start : tie.Need-part-same-start
 part-same-start c = search needs
 
--- src/lookup.rt:69:18
 part-same-end : tie.Need-part-same-end
 part-same-end c = search needs
 
--- src/lookup.rt:69:5
 same-requires : tie.Need-same-requires
 same-requires c κs = search needs
 
--- src/lookup.rt:56:1
 returns-3 : tie.Need-returns-3
 returns-3 c =
     let a = c .before .before .before .before .before .before .before .args in

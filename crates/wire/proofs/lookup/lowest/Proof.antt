@@ -5,18 +5,13 @@ use lib.Count.{trailing-le}
 use Rattle.wire.proofs.Words.{chosen-bits, chosen-none}
 use Rattle.wire.proofs.lookup.lowest.Statement.{statement}
 use Rattle.wire.proofs.lookup.lowest.Tie as tie
-use Rattle.wire.proofs.lookup.lowest.Reads as reads
-use Rattle.wire.proofs.lookup.lowest.Lts as lts
 
--- src/lookup.rt:128:24
 cast-t5 : tie.Need-cast-t5
 cast-t5 c = let l = trailing-le 32 (c .before .args .set) in record { fits = omega arith }
 
--- src/lookup.rt:122:1
 returns : tie.Need-returns
 returns c = rw (c .if1 .taken) (sym (chosen-none 32))
 
--- src/lookup.rt:122:1
 returns-2 : tie.Need-returns-2
 returns-2 c = sym (chosen-bits 32 (c .before .args .set) (c .before .fits .set .fits) (c .if1 .left))
 

@@ -4,22 +4,16 @@ use mathlib.Core.Path.{_≡_, sym, ap, _∙_}
 use mathlib.Core.Bool.{Bool}
 use mathlib.Core.List.{List}
 use native.Mathlib.Omega.{arith}
-use borrow.Author.Needs.{needs}
 use lib.ListN.{length, drop}
 use denote.Ref.{now}
+use borrow.Author.Needs.{needs}
 use Rattle.wire.specs.Table.{Record, recordsIn, records}
 use Rattle.wire.specs.Lookup.{hasAll, narrowedBy, word, bits}
 use Rattle.wire.proofs.Places.{found-inside}
 use Rattle.wire.proofs.Words.{word-bits}
-use Rattle.wire.proofs.Sieves.{sieved, sieved-lt, narrowed-sieved, narrowed-none, Sieving, sieve-start, table-turn, table-fits, table-nothing, table-broken, table-out}
+use Rattle.wire.proofs.Sieves.{sieved, sieved-lt, narrowed-sieved, narrowed-none, Sieving, sieve-start, table-turn, table-fits, table-none, table-out}
 use Rattle.wire.proofs.lookup.narrowed.Statement.{statement}
 use Rattle.wire.proofs.lookup.narrowed.Tie as tie
-use Rattle.wire.proofs.lookup.narrowed.Reads as reads
-use Rattle.wire.proofs.lookup.narrowed.Lts as lts
-use Rattle.wire.proofs.lookup.Sieve.new.Reads as new-reads
-use Rattle.wire.proofs.lookup.Sieve.pass.Reads as pass-reads
-use Rattle.wire.proofs.lookup.agrees.Reads as agrees-reads
-use Rattle.wire.proofs.table.front_at.Reads as front-at-reads
 
 abbrev fitting : ℕ → List ℕ → Record → Bool
 fitting at part r = hasAll r at part
@@ -27,7 +21,8 @@ fitting at part r = hasAll r at part
 abbrev all : ℕ → List ℕ → ℕ → List ℕ → ℕ
 all set table at part = word (sieved (fitting at part) (records table) (bits 32 set))
 
-as-narrowed : (set : ℕ) (table : List ℕ) (at : ℕ) (part : List ℕ) → (length part ≡ 0 → ⊥) → all set table at part ≡ word (narrowedBy (records table) at part (bits 32 set))
+as-narrowed : (set : ℕ) (table : List ℕ) (at : ℕ) (part : List ℕ) → (length part ≡ 0 → ⊥)
+    → all set table at part ≡ word (narrowedBy (records table) at part (bits 32 set))
 as-narrowed set table at part h = ap word (sym (narrowed-sieved (records table) at part (bits 32 set) (omega arith)))
 
 abbrev Inv-loop : tie.InvT-loop
@@ -36,80 +31,73 @@ Inv-loop set table at part s₀ place₀ left₀ s place left = Sieving (fitting
 abbrev μ-loop : tie.MeasureT-loop
 μ-loop set table at part s₀ place₀ left₀ s place left = left
 
--- src/lookup.rt:100:9
 returns : tie.Need-returns Inv-loop μ-loop
 returns c =
     let a = c .before .before .before .args in
-    sym (ap word (narrowed-none (records (now (a .table))) (a .at) (now (a .part)) (bits 32 (a .set)) (c .if1 .taken)) ∙ word-bits 32 (a .set) (c .before .before .before .fits .set .fits))
+    let same = narrowed-none (records (now (a .table))) (a .at) (now (a .part)) (bits 32 (a .set)) (c .if1 .taken) in
+    sym (ap word same ∙ word-bits 32 (a .set) (c .before .before .before .fits .set .fits))
 
--- src/lookup.rt:102:9
 new-requires : tie.Need-new-requires Inv-loop μ-loop
 new-requires c κs = search needs
 
--- src/lookup.rt:105:5
 loop-holds : tie.Need-loop-holds Inv-loop μ-loop
 unfolding records
 loop-holds c =
     let a = c .before .before .before .before .args in
     rw (c .new .ensures) (sieve-start (fitting (a .at) (now (a .part))) (records (now (a .table))) (a .set))
 
--- src/lookup.rt:106:13
 front-at-requires : tie.Need-front-at-requires Inv-loop μ-loop
 front-at-requires c κs = search needs
 
--- src/lookup.rt:108:27
 enum-told : tie.Need-enum-told Inv-loop μ-loop
 enum-told c = search needs
 
--- src/lookup.rt:108:27
 returns-2 : tie.Need-returns-2 Inv-loop μ-loop
 returns-2 c =
     let a = c .before .before .before .before .before .before .before .before .before .args in
-    table-nothing (c .before .before .before .before .loop .inv) (c .before .before .front-at .ensures) (c .enum-told .given .1) ∙ as-narrowed (a .set) (now (a .table)) (a .at) (now (a .part)) (omega arith)
+    table-none (c .before .before .before .before .loop .inv) (c .before .before .front-at .ensures) (c .enum-told .given .1) tt
+    ∙ as-narrowed (a .set) (now (a .table)) (a .at) (now (a .part)) (omega arith)
 
--- src/lookup.rt:109:30
 enum-told-2 : tie.Need-enum-told-2 Inv-loop μ-loop
 enum-told-2 c = search needs
 
--- src/lookup.rt:109:30
 returns-3 : tie.Need-returns-3 Inv-loop μ-loop
 returns-3 c =
     let a = c .before .before .before .before .before .before .before .before .before .args in
-    table-broken (c .before .before .before .before .loop .inv) (c .before .before .front-at .ensures) (c .enum-told2 .given .1) ∙ as-narrowed (a .set) (now (a .table)) (a .at) (now (a .part)) (omega arith)
+    table-none (c .before .before .before .before .loop .inv) (c .before .before .front-at .ensures) (c .enum-told2 .given .1) tt
+    ∙ as-narrowed (a .set) (now (a .table)) (a .at) (now (a .part)) (omega arith)
 
--- src/lookup.rt:110:27
 enum-known-f : tie.Need-enum-known-f Inv-loop μ-loop
 enum-known-f c = search needs
 
--- src/lookup.rt:111:21
 agrees-requires : tie.Need-agrees-requires Inv-loop μ-loop
 agrees-requires c κs = (found-inside (c .before .before .before .front-at .ensures) _ (c .before .f .given .1), omega arith)
 
--- src/lookup.rt:112:17
 pass-requires : tie.Need-pass-requires Inv-loop μ-loop
 pass-requires c κs =
     let a = c .before .before .before .before .before .before .before .before .before .before .before .args in
-    table-fits (c .before .before .before .before .before .before .loop .inv) (c .before .before .before .before .front-at .ensures) (c .before .before .f .given .1) (omega arith) (c .agrees .ensures) (sieved-lt (fitting (a .at) (now (a .part))) (records (now (a .table))) (a .set))
+    let f = c .before .before .before .before .front-at .ensures in
+    table-fits (c .before .before .before .before .before .before .loop .inv) f (c .before .before .f .given .1) (omega arith) (c .agrees .ensures)
+    (sieved-lt (fitting (a .at) (now (a .part))) (records (now (a .table))) (a .set))
 
--- src/lookup.rt:116:9
 sub-left : tie.Need-sub-left Inv-loop μ-loop
 sub-left c = search needs
 
--- src/lookup.rt:105:5
 loop-less : tie.Need-loop-less Inv-loop μ-loop
 loop-less c = search needs
 
--- src/lookup.rt:105:5
 loop-again : tie.Need-loop-again Inv-loop μ-loop
 loop-again c =
-    table-turn (c .before .before .before .before .before .before .before .loop .inv) (c .before .before .before .before .before .front-at .ensures) (c .before .before .before .f .given .1) (omega arith) (c .pass .ensures) (c .before .agrees .ensures)
+    let f = c .before .before .before .before .before .front-at .ensures in
+    let fits = c .before .agrees .ensures in
+    table-turn (c .before .before .before .before .before .before .before .loop .inv) f (c .before .before .before .f .given .1) (omega arith) (c .pass .ensures) fits
 
--- src/lookup.rt:96:1
 returns-4 : tie.Need-returns-4 Inv-loop μ-loop
 returns-4 c =
     let a = c .before .before .before .before .before .before .args in
     let l = c .before .loop in
-    table-out (l .place) (now (a .table)) (l .inv) (omega arith) ∙ as-narrowed (a .set) (now (a .table)) (a .at) (now (a .part)) (omega arith)
+    table-out (l .place) (now (a .table)) (l .inv) (omega arith)
+    ∙ as-narrowed (a .set) (now (a .table)) (a .at) (now (a .part)) (omega arith)
 
 pub narrowed-spec : {M : Type 1} → statement M
 narrowed-spec =

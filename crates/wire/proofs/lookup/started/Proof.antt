@@ -4,23 +4,18 @@ use mathlib.Core.Path.{_≡_, sym, ap, _∙_}
 use mathlib.Core.Bool.{Bool}
 use mathlib.Core.List.{List}
 use native.Mathlib.Omega.{arith}
-use borrow.Author.Needs.{needs}
 use lib.Dec.{eqb}
 use lib.ListN.{length, drop}
 use denote.Ref.{now}
+use borrow.Author.Needs.{needs}
 use Rattle.wire.specs.Table.{Record, recordsIn, records}
 use Rattle.wire.specs.Lookup.{started, word, bits}
 use Rattle.wire.specs.Walk.{recordAt, Inside}
 use Rattle.wire.specs.declared.table.Entry.{Entry}
 use Rattle.wire.proofs.Places.{found-inside, name-length}
-use Rattle.wire.proofs.Sieves.{sieved, sieved-lt, started-sieved, Sieving, sieve-start, table-turn, table-fits, table-nothing, table-broken, table-out}
+use Rattle.wire.proofs.Sieves.{sieved, sieved-lt, started-sieved, Sieving, sieve-start, table-turn, table-fits, table-none, table-out}
 use Rattle.wire.proofs.lookup.started.Statement.{statement}
 use Rattle.wire.proofs.lookup.started.Tie as tie
-use Rattle.wire.proofs.lookup.started.Reads as reads
-use Rattle.wire.proofs.lookup.started.Lts as lts
-use Rattle.wire.proofs.lookup.Sieve.new.Reads as new-reads
-use Rattle.wire.proofs.lookup.Sieve.pass.Reads as pass-reads
-use Rattle.wire.proofs.table.front_at.Reads as front-at-reads
 
 abbrev long : ℕ → Record → Bool
 long len r = eqb (length (r .name)) len
@@ -40,63 +35,58 @@ Inv-loop table len s₀ at₀ left₀ s at left = Sieving (long len) (all table 
 abbrev μ-loop : tie.MeasureT-loop
 μ-loop table len s₀ at₀ left₀ s at left = left
 
--- src/lookup.rt:76:9
 new-requires : tie.Need-new-requires Inv-loop μ-loop
 new-requires c κs = search needs
 
--- src/lookup.rt:79:5
 loop-holds : tie.Need-loop-holds Inv-loop μ-loop
 unfolding records
-loop-holds c = rw (c .new .ensures) (sieve-start (long (c .before .before .args .len)) (records (now (c .before .before .args .table))) 0xFFFFFFFF)
+loop-holds c =
+    let a = c .before .before .args in
+    rw (c .new .ensures) (sieve-start (long (a .len)) (records (now (a .table))) 0xFFFFFFFF)
 
--- src/lookup.rt:80:13
 front-at-requires : tie.Need-front-at-requires Inv-loop μ-loop
 front-at-requires c κs = search needs
 
--- src/lookup.rt:82:27
 enum-told : tie.Need-enum-told Inv-loop μ-loop
 enum-told c = search needs
 
--- src/lookup.rt:82:27
 returns : tie.Need-returns Inv-loop μ-loop
-returns c = table-nothing (c .before .before .before .before .loop .inv) (c .before .before .front-at .ensures) (c .enum-told .given .1) ∙ as-started (now (c .before .before .before .before .before .before .before .args .table)) (c .before .before .before .before .before .before .before .args .len)
+returns c =
+    let a = c .before .before .before .before .before .before .before .args in
+    table-none (c .before .before .before .before .loop .inv) (c .before .before .front-at .ensures) (c .enum-told .given .1) tt ∙ as-started (now (a .table)) (a .len)
 
--- src/lookup.rt:83:30
 enum-told-2 : tie.Need-enum-told-2 Inv-loop μ-loop
 enum-told-2 c = search needs
 
--- src/lookup.rt:83:30
 returns-2 : tie.Need-returns-2 Inv-loop μ-loop
-returns-2 c = table-broken (c .before .before .before .before .loop .inv) (c .before .before .front-at .ensures) (c .enum-told2 .given .1) ∙ as-started (now (c .before .before .before .before .before .before .before .args .table)) (c .before .before .before .before .before .before .before .args .len)
+returns-2 c =
+    let a = c .before .before .before .before .before .before .before .args in
+    table-none (c .before .before .before .before .loop .inv) (c .before .before .front-at .ensures) (c .enum-told2 .given .1) tt ∙ as-started (now (a .table)) (a .len)
 
--- src/lookup.rt:84:27
 enum-known-f : tie.Need-enum-known-f Inv-loop μ-loop
 enum-known-f c = search needs
 
--- src/lookup.rt:86:17
 pass-requires : tie.Need-pass-requires Inv-loop μ-loop
 pass-requires c κs =
     let a = c .before .before .before .before .before .before .before .before .before .args in
     let f = c .before .before .before .before .front-at .ensures in
-    let e = c .before .before .f .given in
-    table-fits (c .before .before .before .before .before .before .loop .inv) f (e .1) (omega arith) (as-long (found-inside f _ (e .1)) (a .len)) (sieved-lt (long (a .len)) (records (now (a .table))) 0xFFFFFFFF)
+    let e = c .before .before .f .given .1 in
+    table-fits (c .before .before .before .before .before .before .loop .inv) f e (omega arith) (as-long (found-inside f _ e) (a .len))
+    (sieved-lt (long (a .len)) (records (now (a .table))) 0xFFFFFFFF)
 
--- src/lookup.rt:90:9
 sub-left : tie.Need-sub-left Inv-loop μ-loop
 sub-left c = search needs
 
--- src/lookup.rt:79:5
 loop-less : tie.Need-loop-less Inv-loop μ-loop
 loop-less c = search needs
 
--- src/lookup.rt:79:5
 loop-again : tie.Need-loop-again Inv-loop μ-loop
 loop-again c =
+    let a = c .before .before .before .before .before .before .before .before .before .before .args in
     let f = c .before .before .before .before .before .front-at .ensures in
-    let e = c .before .before .before .f .given in
-    table-turn (c .before .before .before .before .before .before .before .loop .inv) f (e .1) (omega arith) (c .pass .ensures) (as-long (found-inside f _ (e .1)) (c .before .before .before .before .before .before .before .before .before .before .args .len))
+    let e = c .before .before .before .f .given .1 in
+    table-turn (c .before .before .before .before .before .before .before .loop .inv) f e (omega arith) (c .pass .ensures) (as-long (found-inside f _ e) (a .len))
 
--- src/lookup.rt:73:1
 returns-3 : tie.Need-returns-3 Inv-loop μ-loop
 returns-3 c =
     let a = c .before .before .before .before .args in

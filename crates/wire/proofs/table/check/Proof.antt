@@ -1,15 +1,13 @@
+-- after each sound record, the first fault of the rest is that of the table
 use mathlib.Core.Path.{_≡_, sym, _∙_}
 use native.Mathlib.Omega.{arith}
-use borrow.Author.Needs.{needs}
 use lib.ListN.{drop}
 use denote.Ref.{now}
-use Rattle.wire.proofs.Walks.{fault-empty, fault-version, fault-start, faults-turn, faults-more, faults-done}
+use borrow.Author.Needs.{needs}
 use Rattle.wire.specs.Table.{faults, fault}
+use Rattle.wire.proofs.Walks.{fault-empty, fault-version, fault-start, faults-turn, faults-more, faults-done}
 use Rattle.wire.proofs.table.check.Statement.{statement}
 use Rattle.wire.proofs.table.check.Tie as tie
-use Rattle.wire.proofs.table.check.Reads as reads
-use Rattle.wire.proofs.table.check.Lts as lts
-use Rattle.wire.proofs.table.judged_at.Reads as judged-at-reads
 
 abbrev Inv-loop : tie.InvT-loop
 Inv-loop table image at₀ left₀ at left = faults image left (drop at table) ≡ fault image table
@@ -17,64 +15,53 @@ Inv-loop table image at₀ left₀ at left = faults image left (drop at table) �
 abbrev μ-loop : tie.MeasureT-loop
 μ-loop table image at₀ left₀ at left = left
 
--- src/table.rt:174:9
 returns : tie.Need-returns Inv-loop μ-loop
 returns c = let a = c .before .before .args in fault-empty (a .image) (now (a .table)) (c .if1 .taken)
 
--- src/table.rt:176:8
 shared-slice-read-if2 : tie.Need-shared-slice-read-if2 Inv-loop μ-loop
 shared-slice-read-if2 c = search needs
 
--- src/table.rt:177:9
 returns-2 : tie.Need-returns-2 Inv-loop μ-loop
 returns-2 c = let a = c .before .before .before .before .args in fault-version (a .image) (now (a .table)) (c .if2 .taken)
 
--- src/table.rt:181:5
 loop-holds : tie.Need-loop-holds Inv-loop μ-loop
 loop-holds c = let a = c .before .before .before .before .args in fault-start (a .image) (now (a .table)) (c .if2 .left)
 
--- src/table.rt:182:13
 judged-at-requires : tie.Need-judged-at-requires Inv-loop μ-loop
 judged-at-requires c κs = search needs
 
--- src/table.rt:184:26
 enum-known-j : tie.Need-enum-known-j Inv-loop μ-loop
 enum-known-j c = search needs
 
--- src/table.rt:184:32
 returns-3 : tie.Need-returns-3 Inv-loop μ-loop
 returns-3 c =
     let a = c .before .before .before .before .before .before .before .before .before .before .args in
     let l = c .before .before .before .before .before .loop in
-    faults-turn (a .image) (l .left) (l .at) (now (a .table)) (c .before .j .given .1) (c .before .before .before .judged-at .ensures) (omega arith) ∙ l .inv
+    faults-turn (a .image) (l .left) (l .at) (now (a .table)) (c .before .j .given .1) (c .before .before .before .judged-at .ensures) (omega arith)
+    ∙ l .inv
 
--- src/table.rt:185:24
 enum-known-j-2 : tie.Need-enum-known-j-2 Inv-loop μ-loop
 enum-known-j-2 c = search needs
 
--- src/table.rt:187:9
 sub-left : tie.Need-sub-left Inv-loop μ-loop
 sub-left c = search needs
 
--- src/table.rt:181:5
 loop-less : tie.Need-loop-less Inv-loop μ-loop
 loop-less c = search needs
 
--- src/table.rt:181:5
 loop-again : tie.Need-loop-again Inv-loop μ-loop
 loop-again c =
     let a = c .before .before .before .before .before .before .before .before .before .before .args in
     let l = c .before .before .before .before .before .loop in
-    faults-turn (a .image) (l .left) (l .at) (now (a .table)) (c .before .j2 .given .1) (c .before .before .before .judged-at .ensures) (omega arith) ∙ l .inv
+    faults-turn (a .image) (l .left) (l .at) (now (a .table)) (c .before .j2 .given .1) (c .before .before .before .judged-at .ensures) (omega arith)
+    ∙ l .inv
 
--- src/table.rt:170:1
 returns-4 : tie.Need-returns-4 Inv-loop μ-loop
 returns-4 c =
     let a = c .before .before .before .before .before .before .before .args in
     let l = c .before .before .loop in
     sym (faults-more (a .image) (l .left) (l .at) (now (a .table)) (omega arith) (omega arith)) ∙ l .inv
 
--- src/table.rt:170:1
 returns-5 : tie.Need-returns-5 Inv-loop μ-loop
 returns-5 c =
     let a = c .before .before .before .before .before .before .before .args in

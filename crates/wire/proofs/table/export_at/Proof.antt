@@ -1,19 +1,16 @@
+-- after each record passed, the record asked for is that many fewer places on among the records that are left
 use Prim.Native.Nat.{_-_}
 use mathlib.Core.Path.{_≡_, refl, ap, _∙_}
 use native.Mathlib.Omega.{arith}
-use borrow.Author.Needs.{needs}
 use lib.ListN.{getD, drop}
 use denote.Ref.{now}
+use borrow.Author.Needs.{needs}
 use Rattle.wire.specs.Table.{blank, recordsIn, records}
 use Rattle.wire.specs.Walk.{recordAt, exportOf}
-use Rattle.wire.proofs.Places.{found}
-use Rattle.wire.proofs.Walks.{records-nothing, records-broken, records-out, records-turn, getD-first, getD-later}
+use Rattle.wire.proofs.Places.{found, found-none}
+use Rattle.wire.proofs.Walks.{records-out, records-turn, getD-first, getD-later}
 use Rattle.wire.proofs.table.export_at.Statement.{statement}
 use Rattle.wire.proofs.table.export_at.Tie as tie
-use Rattle.wire.proofs.table.export_at.Reads as reads
-use Rattle.wire.proofs.table.export_at.Lts as lts
-use Rattle.wire.proofs.table.front_at.Reads as front-at-reads
-use Rattle.wire.proofs.table.no_export.Reads as no-export-reads
 
 abbrev Inv-loop : tie.InvT-loop
 Inv-loop table k at₀ left₀ skip₀ at left skip = getD (recordsIn left (drop at table)) skip blank ≡ getD (records table) k blank
@@ -21,84 +18,68 @@ Inv-loop table k at₀ left₀ skip₀ at left skip = getD (recordsIn left (drop
 abbrev μ-loop : tie.MeasureT-loop
 μ-loop table k at₀ left₀ skip₀ at left skip = left
 
--- src/table.rt:189:5
 loop-holds : tie.Need-loop-holds Inv-loop μ-loop
 unfolding records
 loop-holds c = refl
 
--- src/table.rt:190:13
 front-at-requires : tie.Need-front-at-requires Inv-loop μ-loop
 front-at-requires c κs = search needs
 
--- src/table.rt:192:27
 enum-told : tie.Need-enum-told Inv-loop μ-loop
 enum-told c = search needs
 
--- src/table.rt:192:27
 no-export-requires : tie.Need-no-export-requires Inv-loop μ-loop
 no-export-requires c κs = search needs
 
--- src/table.rt:192:27
 returns : tie.Need-returns Inv-loop μ-loop
 returns c =
     let l = c .before .before .before .before .before .loop in
-    let none = records-nothing (l .left) (drop (l .at) (now (c .before .before .before .before .before .before .before .args .table))) (found (c .before .before .before .front-at .ensures) _ (c .before .enum-told .given .1)) in
-    c .no-export .ensures ∙ ap exportOf (rw none at (l .inv))
+    c .no-export .ensures ∙ ap exportOf (rw (found-none (c .before .before .before .front-at .ensures) (c .before .enum-told .given .1) tt (l .left)) at (l .inv))
 
--- src/table.rt:193:30
 enum-told-2 : tie.Need-enum-told-2 Inv-loop μ-loop
 enum-told-2 c = search needs
 
--- src/table.rt:193:30
 no-export-requires-2 : tie.Need-no-export-requires-2 Inv-loop μ-loop
 no-export-requires-2 c κs = search needs
 
--- src/table.rt:193:30
 returns-2 : tie.Need-returns-2 Inv-loop μ-loop
 returns-2 c =
     let l = c .before .before .before .before .before .loop in
-    let none = records-broken (l .left) (drop (l .at) (now (c .before .before .before .before .before .before .before .args .table))) (found (c .before .before .before .front-at .ensures) _ (c .before .enum-told2 .given .1)) in
-    c .no-export2 .ensures ∙ ap exportOf (rw none at (l .inv))
+    c .no-export2 .ensures ∙ ap exportOf (rw (found-none (c .before .before .before .front-at .ensures) (c .before .enum-told2 .given .1) tt (l .left)) at (l .inv))
 
--- src/table.rt:194:27
 enum-known-f : tie.Need-enum-known-f Inv-loop μ-loop
 enum-known-f c = search needs
 
--- src/table.rt:196:21
 returns-3 : tie.Need-returns-3 Inv-loop μ-loop
 returns-3 c =
     let l = c .before .before .before .before .before .before .before .loop in
-    let e = c .before .before .before .f .given in
     let t = now (c .before .before .before .before .before .before .before .before .before .args .table) in
+    let e = c .before .before .before .f .given in
     let turn = records-turn (l .left) (drop (l .at) t) (found (c .before .before .before .before .before .front-at .ensures) _ (e .1)) (omega arith) in
-    ap exportOf (rw (turn, getD-first (recordAt t (e .0 .0)) (recordsIn (l .left - 1) (drop (e .0 .0 .next) t)) (l .skip) blank (c .before .if1 .taken)) at (l .inv))
+    let rest = recordsIn (l .left - 1) (drop (e .0 .0 .next) t) in
+    ap exportOf (rw (turn, getD-first (recordAt t (e .0 .0)) rest (l .skip) blank (c .before .if1 .taken)) at (l .inv))
 
--- src/table.rt:198:17
 sub-skip : tie.Need-sub-skip Inv-loop μ-loop
 sub-skip c = search needs
 
--- src/table.rt:202:9
 sub-left : tie.Need-sub-left Inv-loop μ-loop
 sub-left c = search needs
 
--- src/table.rt:189:5
 loop-less : tie.Need-loop-less Inv-loop μ-loop
 loop-less c = search needs
 
--- src/table.rt:189:5
 loop-again : tie.Need-loop-again Inv-loop μ-loop
 loop-again c =
     let l = c .before .before .before .before .before .before .loop in
-    let e = c .before .before .f .given in
     let t = now (c .before .before .before .before .before .before .before .before .args .table) in
+    let e = c .before .before .f .given in
     let turn = records-turn (l .left) (drop (l .at) t) (found (c .before .before .before .before .front-at .ensures) _ (e .1)) (omega arith) in
-    rw (turn, getD-later (recordAt t (e .0 .0)) (recordsIn (l .left - 1) (drop (e .0 .0 .next) t)) (l .skip) blank (c .if1 .left)) at (l .inv)
+    let rest = recordsIn (l .left - 1) (drop (e .0 .0 .next) t) in
+    rw (turn, getD-later (recordAt t (e .0 .0)) rest (l .skip) blank (c .if1 .left)) at (l .inv)
 
--- src/table.rt:204:5
 no-export-requires-3 : tie.Need-no-export-requires-3 Inv-loop μ-loop
 no-export-requires-3 c κs = search needs
 
--- src/table.rt:183:1
 returns-4 : tie.Need-returns-4 Inv-loop μ-loop
 returns-4 c =
     let l = c .before .before .loop in

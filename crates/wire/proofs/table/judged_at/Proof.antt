@@ -1,42 +1,30 @@
 -- what stands there decides: nothing is sound, a broken length is 21, a record is judged
-use Rattle.wire.proofs.Places.{found, found-inside}
 use borrow.Author.Needs.{needs}
+use Rattle.wire.proofs.Places.{found, found-inside}
 use Rattle.wire.proofs.table.judged_at.Statement.{statement}
 use Rattle.wire.proofs.table.judged_at.Tie as tie
-use Rattle.wire.proofs.table.judged_at.Reads as reads
-use Rattle.wire.proofs.table.judged_at.Lts as lts
-use Rattle.wire.proofs.table.front_at.Reads as front-at-reads
-use Rattle.wire.proofs.table.record_judged.Reads as record-judged-reads
 
--- src/table.rt:161:9
 front-at-requires : tie.Need-front-at-requires
 front-at-requires c κs = search needs
 
--- src/table.rt:163:36
 enum-told : tie.Need-enum-told
 enum-told c = search needs
 
--- src/table.rt:164:39
 enum-told-2 : tie.Need-enum-told-2
 enum-told-2 c = search needs
 
--- src/table.rt:165:23
 enum-known-f : tie.Need-enum-known-f
 enum-known-f c = search needs
 
--- src/table.rt:165:29
 record-judged-requires : tie.Need-record-judged-requires
 record-judged-requires c κs = found-inside (c .before .before .before .front-at .ensures) _ (c .before .f .given .1)
 
--- src/table.rt:158:1
 returns : tie.Need-returns
 returns c more = rw (found (c .before .before .front-at .ensures) _ (c .enum-told .given .1))
 
--- src/table.rt:158:1
 returns-2 : tie.Need-returns-2
 returns-2 c more = rw (found (c .before .before .front-at .ensures) _ (c .enum-told2 .given .1))
 
--- src/table.rt:158:1
 returns-3 : tie.Need-returns-3
 returns-3 c more = rw (found (c .before .before .before .before .front-at .ensures) _ (c .before .before .f .given .1)) (c .record-judged .ensures more)
 

@@ -4,16 +4,12 @@ use native.Mathlib.Omega.{arith}
 use Rattle.wire.proofs.Tests.{leb-same}
 use Rattle.wire.proofs.table.window_fits.Statement.{statement}
 use Rattle.wire.proofs.table.window_fits.Tie as tie
-use Rattle.wire.proofs.table.window_fits.Reads as reads
-use Rattle.wire.proofs.table.window_fits.Lts as lts
 
--- src/table.rt:130:1
 returns : tie.Need-returns
 returns c =
     let a = c .before .before .before .before .args in
     leb-same (a .x .start) (a .image - a .x .size) (a .x .start + a .x .size) (a .image) (omega arith) (omega arith)
 
--- src/table.rt:130:1
 returns-2 : tie.Need-returns-2
 returns-2 c =
     let a = c .before .before .args in

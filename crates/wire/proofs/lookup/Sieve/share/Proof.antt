@@ -3,22 +3,16 @@ use borrow.Author.Tests.{eq-eqb, ne-eqb}
 use borrow.Author.Needs.{needs}
 use Rattle.wire.proofs.lookup.Sieve.share.Statement.{statement}
 use Rattle.wire.proofs.lookup.Sieve.share.Tie as tie
-use Rattle.wire.proofs.lookup.Sieve.share.Reads as reads
-use Rattle.wire.proofs.lookup.Sieve.share.Lts as lts
 
--- src/lookup.rt:44:23
 cast-result : tie.Need-cast-result
 cast-result c = search needs
 
--- src/lookup.rt:39:5
 returns : tie.Need-returns
 returns c = let one = eq-eqb _ _ (c .before .before .if1 .taken) in simp (one, c .before .if2 .taken)
 
--- src/lookup.rt:39:5
 returns-2 : tie.Need-returns-2
 returns-2 c = let one = eq-eqb _ _ (c .before .if1 .taken) in simp (one, c .if2 .left)
 
--- src/lookup.rt:39:5
 returns-3 : tie.Need-returns-3
 returns-3 c = let other = ne-eqb _ _ (c .if1 .left) in simp other
 

@@ -1,0 +1,12 @@
+pub mod Left
+pub mod Session
+pub mod Header
+pub mod Past
+pub mod Tests
+pub mod Zeros
+pub mod Window
+pub mod Names
+pub mod Bounds
+pub mod Records
+pub mod Kept
+pub mod Tidy

@@ -1,0 +1,34 @@
+-- Bytes are gathered up to the next place where they are judged.
+use mathlib.Core.Path.{_≡_}
+use native.Mathlib.Omega.{arith}
+use borrow.Author.Needs.{needs}
+use lib.ListN.{length}
+use Rattle.server.proofs.Header.{until-option, option-leaf}
+use Rattle.server.proofs.handshake.take_option.Statement.{statement}
+use Rattle.server.proofs.handshake.take_option.Tie as tie
+
+long : (c : tie.Start) → length (c .args .head) ≡ 28
+long c = search needs
+
+until-requires : tie.Need-until-requires
+until-requires c κs = search needs
+
+gather-requires : tie.Need-gather-requires
+gather-requires c κs =
+    let u = until-option (c .before .before .before .args .have) (c .before .before .before .pre .0) in
+    omega (arith, c .until .ensures)
+
+add-opted : tie.Need-add-opted
+add-opted c = search needs
+
+opted-requires : tie.Need-opted-requires
+opted-requires c κs =
+    let u = until-option (c .before .before .before .before .before .before .args .have) (c .before .before .before .before .before .before .pre .0) in
+    omega (arith, c .before .before .before .until .ensures, c .before .before .gather .ensures .least)
+
+returns : tie.Need-returns
+returns c = λ m. option-leaf _ _ (long (c .before .before .before .before .before .before .before)) (c .before .before .before .before .before .before .before .pre .0) (c .before .before .before .before .before .before .before .pre .1) (rw (← c .before .before .before .before .until .ensures) (c .before .before .before .gather .ensures)) (c .opted .ensures)
+
+pub take-option-spec : {M : Type 1} → statement M
+take-option-spec =
+    tie.close (tie.spec until-requires gather-requires add-opted opted-requires returns)

@@ -1,0 +1,6 @@
+pub mod Request
+pub mod Session
+pub mod View
+pub mod Ranges
+pub mod Pieces
+pub mod Contract

@@ -1,0 +1,307 @@
+// The ranges of docs/STATES.md: a state outside them is refused as 27.
+use crate::request;
+use crate::state::Handshake;
+use crate::state::Phase;
+use crate::state::Server;
+use crate::state::Transmission;
+use wire::consts;
+use wire::table::Export;
+ghost use mathlib.Core.Path.{_≡_};
+ghost use mathlib.Core.Bool.{not};
+ghost use Prim.Native.Nat.{_+_};
+ghost use lib.Dec.{eqb, ltb, leb};
+ghost use lib.ListN.{drop};
+ghost use Rattle.machine.specs.Choice.{pick, both, either, between};
+ghost use Rattle.wire.specs.Constants.{NBD-OPT-EXPORT-NAME, NBD-EPERM, NBD-ENOSPC};
+ghost use Rattle.wire.specs.Table.{readOnly};
+ghost use Rattle.server.specs.Session.{replyLength};
+ghost use Rattle.server.specs.View.{view, handshakeOf, transmissionOf};
+ghost use Rattle.server.specs.Ranges.{
+  unsupported,
+  rangedShaking,
+  part,
+  replied,
+  behind,
+  rangedServing,
+  ranged,
+  usedShaking,
+  usedServing,
+  used,
+  blank,
+  inRange,
+};
+
+// ---- tests, without a branch
+
+fn both(a: bool, b: bool) -> bool
+    ensures { λ r. ⌜ r ≡ both a b ⌝ }
+{
+    if a { b } else { false }
+}
+
+fn either(a: bool, b: bool) -> bool
+    ensures { λ r. ⌜ r ≡ either a b ⌝ }
+{
+    if a { true } else { b }
+}
+
+fn between(lo: usize, hi: usize, n: usize) -> bool
+    ensures { λ r. ⌜ r ≡ between lo hi n ⌝ }
+{
+    both(lo <= n, n <= hi)
+}
+
+// Whether off + left is at most n, as whole numbers.
+pub fn fits(off: usize, left: usize, n: usize) -> bool
+    ensures { λ r. ⌜ r ≡ leb (off + left) n ⌝ }
+{
+    if left <= n { off <= n - left } else { false }
+}
+
+// ---- the phases
+
+fn unsupported(option: u32) -> bool
+    ensures { λ r. ⌜ r ≡ unsupported option ⌝ }
+{
+    let later = either(
+        option == consts::NBD_OPT_STRUCTURED_REPLY,
+        option == consts::NBD_OPT_EXTENDED_HEADERS,
+    );
+    either(
+        option == consts::NBD_OPT_INFO,
+        either(option == consts::NBD_OPT_GO, later),
+    )
+}
+
+fn passed(option: u32, len: usize, left: usize) -> bool
+    ensures { λ r. ⌜ r ≡ both (not (eqb option NBD-OPT-EXPORT-NAME)) (both (between 1 len left) (leb len 100000)) ⌝ }
+{
+    both(
+        option != consts::NBD_OPT_EXPORT_NAME,
+        both(between(1, len, left), len <= 100000),
+    )
+}
+
+// How many bytes the reply to EXPORT_NAME has.
+pub fn reply_length(zeroes: bool) -> usize
+    ensures { λ r. ⌜ r ≡ replyLength zeroes ⌝ }
+{
+    if zeroes { 134 } else { 10 }
+}
+
+fn reply_within(zeroes: bool, flags: u8, left: usize) -> bool
+    ensures { λ r. ⌜ r ≡ both (ltb flags 16) (between 1 (replyLength zeroes) left) ⌝ }
+{
+    both(flags < 16, between(1, reply_length(zeroes), left))
+}
+
+fn ranged_shaking(head: [u8; 28], p: Handshake) -> bool
+    ensures { λ r. ⌜ r ≡ rangedShaking (handshakeOf head p) ⌝ }
+{
+    match p {
+        Handshake::Greeting { left } => between(1, 18, left),
+        Handshake::ClientFlags { have } => have < 4,
+        Handshake::OptionHead { zeroes: _, have } => have < 16,
+        Handshake::Naming {
+            zeroes: _,
+            fits: _,
+            text: _,
+            at,
+            left,
+        } => both(0 < left, fits(at, left, 100000)),
+        Handshake::Passing {
+            zeroes: _,
+            option,
+            len,
+            left,
+        } => passed(option, len, left),
+        Handshake::Listing { zeroes: _, left } => between(1, 51, left),
+        Handshake::Declining {
+            zeroes: _,
+            option,
+            left,
+        } => both(unsupported(option), between(1, 20, left)),
+        Handshake::Aborting { left } => between(1, 20, left),
+        Handshake::Exporting {
+            zeroes,
+            export,
+            left,
+        } => reply_within(zeroes, export.flags, left),
+    }
+}
+
+fn part(e: Export, off: usize, left: usize) -> bool
+    ensures { λ r. ⌜ r ≡ part e off left ⌝ }
+{
+    both(0 < left, fits(off, left, e.size as usize))
+}
+
+fn replied(error: u32) -> bool
+    ensures { λ r. ⌜ r ≡ replied error ⌝ }
+{
+    let past = either(error == consts::NBD_ENOSPC, error == consts::NBD_ENOSYS);
+    either(
+        error == 0,
+        either(
+            error == consts::NBD_EPERM,
+            either(error == consts::NBD_EINVAL, past),
+        ),
+    )
+}
+
+fn behind(e: Export, error: u32, off: usize, len: usize) -> bool
+    ensures { λ r. ⌜ r ≡ behind e error off len ⌝ }
+{
+    if len == 0 {
+        both(off == 0, replied(error))
+    } else {
+        both(error == 0, fits(off, len, e.size as usize))
+    }
+}
+
+// The error that refuses a payload.
+fn refused(e: Export) -> u32
+    ensures { λ r. ⌜ r ≡ pick (readOnly (e .flags)) NBD-EPERM NBD-ENOSPC ⌝ }
+{
+    if request::read_only(e) {
+        consts::NBD_EPERM
+    } else {
+        consts::NBD_ENOSPC
+    }
+}
+
+fn ranged_serving(head: [u8; 28], e: Export, p: Transmission) -> bool
+    ensures { λ r. ⌜ r ≡ rangedServing e (transmissionOf head p) ⌝ }
+{
+    match p {
+        Transmission::Header { have } => have < 28,
+        Transmission::Storing {
+            handle: _,
+            off,
+            left,
+        } => both(!request::read_only(e), part(e, off, left)),
+        Transmission::Dropping {
+            error,
+            handle: _,
+            left,
+        } => both(error == refused(e), 0 < left),
+        Transmission::Replying {
+            error,
+            handle: _,
+            left,
+            off,
+            len,
+        } => both(between(1, 16, left), behind(e, error, off, len)),
+        Transmission::Sending { off, left } => part(e, off, left),
+    }
+}
+
+fn ranged(s: Server) -> bool
+    ensures { λ r. ⌜ r ≡ ranged (view s) ⌝ }
+{
+    let head = s.head;
+    let p = s.phase;
+    match p {
+        Phase::Shaking(h) => ranged_shaking(head, h),
+        Phase::Serving(e, t) => both(e.flags < 16, ranged_serving(head, e, t)),
+        Phase::Over(n) => n <= 12,
+    }
+}
+
+// ---- zeros in what is not used
+
+fn used_shaking(p: Handshake) -> usize
+    ensures { λ r. ⌜ r ≡ usedShaking p ⌝ }
+{
+    match p {
+        Handshake::Greeting { left: _ } => 0,
+        Handshake::ClientFlags { have } => have,
+        Handshake::OptionHead { zeroes: _, have } => have,
+        Handshake::Naming {
+            zeroes: _,
+            fits: _,
+            text: _,
+            at: _,
+            left: _,
+        } => 0,
+        Handshake::Passing {
+            zeroes: _,
+            option: _,
+            len: _,
+            left: _,
+        } => 0,
+        Handshake::Listing { zeroes: _, left: _ } => 0,
+        Handshake::Declining {
+            zeroes: _,
+            option: _,
+            left: _,
+        } => 0,
+        Handshake::Aborting { left: _ } => 0,
+        Handshake::Exporting {
+            zeroes: _,
+            export: _,
+            left: _,
+        } => 0,
+    }
+}
+
+fn used_serving(p: Transmission) -> usize
+    ensures { λ r. ⌜ r ≡ usedServing p ⌝ }
+{
+    match p {
+        Transmission::Header { have } => have,
+        Transmission::Storing {
+            handle: _,
+            off: _,
+            left: _,
+        } => 0,
+        Transmission::Dropping {
+            error: _,
+            handle: _,
+            left: _,
+        } => 0,
+        Transmission::Replying {
+            error: _,
+            handle: _,
+            left: _,
+            off: _,
+            len: _,
+        } => 0,
+        Transmission::Sending { off: _, left: _ } => 0,
+    }
+}
+
+// How many bytes of `head` are in use.
+pub fn used(p: Phase) -> usize
+    ensures { λ r. ⌜ r ≡ used p ⌝ }
+{
+    match p {
+        Phase::Shaking(h) => used_shaking(h),
+        Phase::Serving(_, t) => used_serving(t),
+        Phase::Over(_) => 0,
+    }
+}
+
+// Whether the bytes of l from `from` on are 0.
+fn blank(l: &[u8], from: usize) -> bool
+    ensures { λ r. ⌜ r ≡ blank (drop from (now (l .entry))) ⌝ }
+{
+    let mut i = from;
+    while i < l.len() {
+        if l[i] != 0 {
+            return false;
+        }
+        i += 1;
+    }
+    true
+}
+
+// Whether a server is within its ranges.
+pub fn in_range(s: Server) -> bool
+    ensures { λ r. ⌜ r ≡ inRange s ⌝ }
+{
+    let head = s.head;
+    let p = s.phase;
+    let k = used(p);
+    both(blank(&head, k), ranged(s))
+}
