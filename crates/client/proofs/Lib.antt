@@ -1,0 +1,12 @@
+pub mod Left
+pub mod Zeros
+pub mod Runs
+pub mod Header
+pub mod Sound
+pub mod Refusals
+pub mod Tidy
+pub mod Result
+pub mod Alone
+pub mod Changes
+pub mod Closing
+pub mod Cut

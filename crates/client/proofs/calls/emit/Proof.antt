@@ -1,0 +1,59 @@
+-- Each progress that owes has a leaf that ensures its moves; the others owe no byte.
+use borrow.Author.Needs.{needs}
+use Rattle.machine.proofs.Leaves.{emits-idle}
+use Rattle.client.proofs.Runs.{paid}
+use Rattle.client.proofs.calls.emit.Statement.{statement}
+use Rattle.client.proofs.calls.emit.Tie as tie
+
+enum-known-p : tie.Need-enum-known-p
+enum-known-p c = search needs
+
+ask-requires : tie.Need-ask-requires
+ask-requires c κs = let s = rw (c .before .before .p .given .1) at (c .before .before .before .before .before .before .pre) in s .2
+
+enum-known-p-2 : tie.Need-enum-known-p-2
+enum-known-p-2 c = search needs
+
+pay-requires : tie.Need-pay-requires
+pay-requires c κs = let s = rw (c .before .before .p2 .given .1) at (c .before .before .before .before .before .before .pre) in (paid (c .before .before .before .before .before .before .args .d) (c .before .before .before .before .before .before .args .c) (s .0) (s .1), s .2)
+
+enum-told : tie.Need-enum-told
+enum-told c = search needs
+
+enum-told-2 : tie.Need-enum-told-2
+enum-told-2 c = search needs
+
+same-length : tie.Need-same-length
+same-length c = search needs
+
+returns : tie.Need-returns
+returns c = rw (c .before .before .before .before .before .p .given .1) (c .before .before .ask .ensures _)
+
+same-length-2 : tie.Need-same-length-2
+same-length-2 c = search needs
+
+returns-2 : tie.Need-returns-2
+returns-2 c = rw (c .before .before .before .before .before .p2 .given .1) (c .before .before .pay .ensures)
+
+returns-3 : tie.Need-returns-3
+returns-3 c = emits-idle (rw (c .enum-told .given .1))
+
+returns-4 : tie.Need-returns-4
+returns-4 c = emits-idle (rw (c .enum-told2 .given .1))
+
+pub emit-spec : {M : Type 1} → statement M
+emit-spec =
+    tie.close
+    (tie.spec
+    enum-known-p
+    ask-requires
+    enum-known-p-2
+    pay-requires
+    enum-told
+    enum-told-2
+    same-length
+    returns
+    same-length-2
+    returns-2
+    returns-3
+    returns-4)

@@ -1,0 +1,82 @@
+-- Each phase that owes has a leaf that ensures its moves; the others owe no byte.
+use borrow.Author.Needs.{needs}
+use Rattle.machine.proofs.Leaves.{emits-idle}
+use Rattle.client.proofs.handshake.emit.Statement.{statement}
+use Rattle.client.proofs.handshake.emit.Tie as tie
+
+enum-told : tie.Need-enum-told
+enum-told c = search needs
+
+enum-told-2 : tie.Need-enum-told-2
+enum-told-2 c = search needs
+
+enum-told-3 : tie.Need-enum-told-3
+enum-told-3 c = search needs
+
+enum-known-p : tie.Need-enum-known-p
+enum-known-p c = search needs
+
+send-hello-requires : tie.Need-send-hello-requires
+send-hello-requires c κs = let s = rw (c .before .before .p .given .1) at (c .before .before .before .before .before .before .pre) in (s .1, s .2)
+
+enum-known-p-2 : tie.Need-enum-known-p-2
+enum-known-p-2 c = search needs
+
+send-name-requires : tie.Need-send-name-requires
+send-name-requires c κs = let s = rw (c .before .before .p2 .given .1) at (c .before .before .before .before .before .before .pre) in (s .0, s .2)
+
+enum-told-4 : tie.Need-enum-told-4
+enum-told-4 c = search needs
+
+enum-told-5 : tie.Need-enum-told-5
+enum-told-5 c = search needs
+
+returns : tie.Need-returns
+returns c = emits-idle (rw (c .enum-told .given .1))
+
+returns-2 : tie.Need-returns-2
+returns-2 c = emits-idle (rw (c .enum-told2 .given .1))
+
+returns-3 : tie.Need-returns-3
+returns-3 c = emits-idle (rw (c .enum-told3 .given .1))
+
+same-length : tie.Need-same-length
+same-length c = search needs
+
+returns-4 : tie.Need-returns-4
+returns-4 c = rw (c .before .before .before .before .before .p .given .1) (c .before .before .send-hello .ensures _)
+
+same-length-2 : tie.Need-same-length-2
+same-length-2 c = search needs
+
+returns-5 : tie.Need-returns-5
+returns-5 c = rw (c .before .before .before .before .before .p2 .given .1) (c .before .before .send-name .ensures)
+
+returns-6 : tie.Need-returns-6
+returns-6 c = emits-idle (rw (c .enum-told4 .given .1))
+
+returns-7 : tie.Need-returns-7
+returns-7 c = emits-idle (rw (c .enum-told5 .given .1))
+
+pub emit-spec : {M : Type 1} → statement M
+emit-spec =
+    tie.close
+    (tie.spec
+    enum-told
+    enum-told-2
+    enum-told-3
+    enum-known-p
+    send-hello-requires
+    enum-known-p-2
+    send-name-requires
+    enum-told-4
+    enum-told-5
+    returns
+    returns-2
+    returns-3
+    same-length
+    returns-4
+    same-length-2
+    returns-5
+    returns-6
+    returns-7)

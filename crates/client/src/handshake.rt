@@ -1,0 +1,414 @@
+// The handshake: both styles, up to the 152nd byte.
+use crate::pieces;
+use crate::state::Client;
+use crate::state::Device;
+use crate::state::Fields;
+use crate::state::Gave;
+use crate::state::Handshake;
+use crate::state::Outcome;
+use crate::state::Phase;
+use crate::state::Took;
+use crate::state::Value;
+use machine::copy;
+use wire::consts;
+use wire::fields;
+ghost use mathlib.Core.Path.{_≡_};
+ghost use mathlib.Core.List.{List};
+ghost use Prim.Native.Nat.{ℕ, _<_, _≤_};
+ghost use lib.ListN.{length, take};
+ghost use Rattle.machine.specs.Choice.{both};
+ghost use Rattle.machine.specs.Machine.{on};
+ghost use Rattle.machine.specs.Pieces.{Absorbs, Emits};
+ghost use Rattle.client.specs.Calls.{has, fieldsOf};
+ghost use Rattle.client.specs.Session.{
+  Magic,
+  Style,
+  Newstyle,
+  Hello,
+  Naming,
+  Terms,
+  Filler,
+  Shaking,
+  hello,
+  magicked,
+  oldstyle,
+  styled,
+  naming,
+  greeting,
+  newstyle,
+  termsLength,
+  termed,
+  judged,
+  filler,
+  turn,
+};
+ghost use Rattle.client.specs.View.{view, viewOf, handshakeOf};
+ghost use Rattle.client.specs.Ranges.{blank, Some, SoundShaking};
+
+// ---- the flags
+
+// Whether the flags have this bit and the one that says that they count.
+fn has(flags: u16, bit: u16) -> bool
+    requires { ⌜ 0 < bit ⌝ }
+    ensures { λ r. ⌜ r ≡ has flags bit ⌝ }
+{
+    if flags % 2 == 1 {
+        flags / bit % 2 == 1
+    } else {
+        false
+    }
+}
+
+fn fields_of(flags: u16) -> Fields
+    ensures { λ r. ⌜ r ≡ fieldsOf flags ⌝ }
+{
+    Fields {
+        readonly: has(flags, consts::NBD_FLAG_READ_ONLY),
+        resizeable: has(flags, consts::NBD_FLAG_SEND_RESIZE),
+        rotational: has(flags, consts::NBD_FLAG_ROTATIONAL),
+        send_trim: has(flags, consts::NBD_FLAG_SEND_TRIM),
+        send_flush: has(flags, consts::NBD_FLAG_SEND_FLUSH),
+    }
+}
+
+// ---- the phases that follow where nothing may be left
+
+fn naming(name: usize, left: usize) -> Phase
+    ensures { λ r. ⌜ ((h : List ℕ) → viewOf h r ≡ naming name left) ⌝ }
+{
+    if left == 0 {
+        Phase::Shaking(
+            name,
+            Handshake::Terms {
+                old: false,
+                have: 0,
+            },
+        )
+    } else {
+        Phase::Shaking(name, Handshake::Naming { left })
+    }
+}
+
+fn greeting(name: usize, left: usize) -> Phase
+    ensures { λ r. ⌜ ((h : List ℕ) → viewOf h r ≡ greeting name left) ⌝ }
+{
+    if left == 0 {
+        naming(name, name)
+    } else {
+        Phase::Shaking(name, Handshake::Hello { left })
+    }
+}
+
+fn newstyle(name: usize, left: usize) -> Phase
+    ensures { λ r. ⌜ ((h : List ℕ) → viewOf h r ≡ newstyle name left) ⌝ }
+{
+    if left == 0 {
+        Phase::Shaking(name, Handshake::Hello { left: 20 })
+    } else {
+        Phase::Shaking(name, Handshake::Newstyle { left })
+    }
+}
+
+// All 124 bytes are there.
+fn judged(size: u64, flags: u16, clean: bool) -> Phase
+    ensures { λ r. ⌜ ((h : List ℕ) → viewOf h r ≡ judged size flags clean) ⌝ }
+{
+    if clean {
+        let fields = fields_of(flags);
+        let device = Device {
+            size,
+            position: 0,
+            fields,
+        };
+        Phase::Closed(Outcome::Succeeded(Value::Opened(size, fields)), device)
+    } else {
+        Phase::Over(43)
+    }
+}
+
+fn filler(name: usize, size: u64, flags: u16, clean: bool, left: usize) -> Phase
+    ensures { λ r. ⌜ ((h : List ℕ) → viewOf h r ≡ filler name size flags clean left) ⌝ }
+{
+    if left == 0 {
+        judged(size, flags, clean)
+    } else {
+        Phase::Shaking(
+            name,
+            Handshake::Filler {
+                size,
+                flags,
+                clean,
+                left,
+            },
+        )
+    }
+}
+
+// ---- what is judged
+
+// The first k bytes of the first magic are there.
+fn magicked(name: usize, head: [u8; 16], k: usize) -> Phase
+    requires { ⌜ k ≤ 8 ⌝ }
+    ensures { λ r. ⌜ viewOf head r ≡ magicked name (take k head) ⌝ }
+{
+    if k < 8 {
+        return Phase::Shaking(name, Handshake::Magic { have: k });
+    }
+    if fields::same_bytes(&head, 0, &consts::NBDMAGIC) {
+        Phase::Shaking(name, Handshake::Style { have: 0 })
+    } else {
+        Phase::Over(40)
+    }
+}
+
+fn oldstyle(name: usize) -> Phase
+    ensures { λ r. ⌜ ((h : List ℕ) → viewOf h r ≡ oldstyle name) ⌝ }
+{
+    if name == 0 {
+        Phase::Shaking(name, Handshake::Terms { old: true, have: 0 })
+    } else {
+        Phase::Over(42)
+    }
+}
+
+// The first k bytes of the second magic are there.
+fn styled(name: usize, head: [u8; 16], k: usize) -> Phase
+    requires { ⌜ k ≤ 8 ⌝ }
+    ensures { λ r. ⌜ viewOf head r ≡ styled name (take k head) ⌝ }
+{
+    if k < 8 {
+        return Phase::Shaking(name, Handshake::Style { have: k });
+    }
+    if fields::same_bytes(&head, 0, &consts::IHAVEOPT) {
+        return Phase::Shaking(name, Handshake::Newstyle { left: 2 });
+    }
+    if fields::same_bytes(&head, 0, &consts::OLDSTYLE) {
+        oldstyle(name)
+    } else {
+        Phase::Over(41)
+    }
+}
+
+// How long the size and the flags are.
+fn terms_length(old: bool) -> usize
+    ensures { λ r. ⌜ r ≡ termsLength old ⌝ }
+{
+    if old { 12 } else { 10 }
+}
+
+// The first k bytes of the size and the flags are there.
+fn termed(name: usize, old: bool, head: [u8; 16], k: usize) -> Phase
+    requires { ⌜ k ≤ termsLength old ⌝ }
+    ensures { λ r. ⌜ viewOf head r ≡ termed name old (take k head) ⌝ }
+{
+    if k < terms_length(old) {
+        return Phase::Shaking(name, Handshake::Terms { old, have: k });
+    }
+    let size = fields::read_u64(&head, 0);
+    if old {
+        let flags = (fields::read_u32(&head, 8) % 65536) as u16;
+        Phase::Shaking(
+            name,
+            Handshake::Filler {
+                size,
+                flags,
+                clean: true,
+                left: 124,
+            },
+        )
+    } else {
+        let flags = fields::read_u16(&head, 8);
+        Phase::Shaking(
+            name,
+            Handshake::Filler {
+                size,
+                flags,
+                clean: true,
+                left: 124,
+            },
+        )
+    }
+}
+
+// ---- what is sent
+
+// What stands before a name of n bytes.
+fn hello(n: u32) -> [u8; 20]
+    ensures { λ r. ⌜ r ≡ hello n ⌝ }
+{
+    let mut bytes = [0u8; 20];
+    fields::write_u32(&mut bytes, 0, consts::NBD_FLAG_C_FIXED_NEWSTYLE);
+    copy::copy_part(&consts::IHAVEOPT, 0, &mut bytes, 4, 8);
+    fields::write_u32(&mut bytes, 12, consts::NBD_OPT_EXPORT_NAME);
+    fields::write_u32(&mut bytes, 16, n);
+    bytes
+}
+
+// ---- one leaf for each phase
+
+// Whether the filler was 0 before, and is in these bytes.
+fn all_zero(clean: bool, bytes: &[u8]) -> bool
+    ensures { λ r. ⌜ r ≡ both clean (blank (now (bytes .entry))) ⌝ }
+{
+    if clean {
+        pieces::blank(bytes, 0)
+    } else {
+        false
+    }
+}
+
+fn take_magic(head: [u8; 16], name: usize, have: usize, input: &[u8]) -> Took
+    requires { ⌜ (have < 8) × (0 < length (now input)) ⌝ }
+    ensures { λ r. ⌜ ((m : List ℕ) → Absorbs turn (on (Shaking name (Magic (take have head))) m) (now (input .entry)) (r .taken) (on (view (r .state)) m)) ⌝ }
+{
+    let mut bytes = head;
+    let n = pieces::gather(&mut bytes, have, 8, input);
+    let phase = magicked(name, bytes, have + n);
+    Took {
+        state: Client { phase, head: bytes },
+        taken: n,
+    }
+}
+
+fn take_style(head: [u8; 16], name: usize, have: usize, input: &[u8]) -> Took
+    requires { ⌜ (have < 8) × (0 < length (now input)) ⌝ }
+    ensures { λ r. ⌜ ((m : List ℕ) → Absorbs turn (on (Shaking name (Style (take have head))) m) (now (input .entry)) (r .taken) (on (view (r .state)) m)) ⌝ }
+{
+    let mut bytes = head;
+    let n = pieces::gather(&mut bytes, have, 8, input);
+    let phase = styled(name, bytes, have + n);
+    Took {
+        state: Client { phase, head: bytes },
+        taken: n,
+    }
+}
+
+// A new-style server's flags, of `count` bytes of input.
+fn skip_flags(head: [u8; 16], name: usize, left: usize, count: usize) -> Took
+    requires { ⌜ 0 < left ⌝ }
+    ensures { λ r. ⌜ ((m input : List ℕ) → length input ≡ count → Absorbs turn (on (Shaking name (Newstyle left)) m) input (r .taken) (on (view (r .state)) m)) ⌝ }
+{
+    let n = copy::least(left, count);
+    let phase = newstyle(name, left - n);
+    Took {
+        state: Client { phase, head },
+        taken: n,
+    }
+}
+
+fn send_hello(head: [u8; 16], name: usize, left: usize, room: &mut [u8]) -> Gave
+    requires { ⌜ (name ≤ 4096) × Some 20 left ⌝ }
+    ensures { λ r. ⌜ ((m : List ℕ) → Emits turn (on (Shaking name (Hello left)) m) (now (room .entry)) (r .given) (on (view (r .state)) m) (now (room .exit))) ⌝ }
+{
+    let bytes = hello(name as u32);
+    let n = pieces::give(&bytes, left, room);
+    let phase = greeting(name, left - n);
+    Gave {
+        state: Client { phase, head },
+        given: n,
+    }
+}
+
+fn send_name(head: [u8; 16], name: usize, left: usize, lent: &[u8], room: &mut [u8]) -> Gave
+    requires { ⌜ (name ≡ length (now lent)) × Some name left ⌝ }
+    ensures { λ r. ⌜ Emits turn (on (Shaking name (Naming left)) (now (lent .entry))) (now (room .entry)) (r .given) (on (view (r .state)) (now (lent .entry))) (now (room .exit)) ⌝ }
+{
+    let n = pieces::give(lent, left, room);
+    let phase = naming(name, left - n);
+    Gave {
+        state: Client { phase, head },
+        given: n,
+    }
+}
+
+fn take_terms(head: [u8; 16], name: usize, old: bool, have: usize, input: &[u8]) -> Took
+    requires { ⌜ (have < termsLength old) × (0 < length (now input)) ⌝ }
+    ensures { λ r. ⌜ ((m : List ℕ) → Absorbs turn (on (Shaking name (Terms old (take have head))) m) (now (input .entry)) (r .taken) (on (view (r .state)) m)) ⌝ }
+{
+    let mut bytes = head;
+    let n = pieces::gather(&mut bytes, have, terms_length(old), input);
+    let phase = termed(name, old, bytes, have + n);
+    Took {
+        state: Client { phase, head: bytes },
+        taken: n,
+    }
+}
+
+fn take_filler(
+    head: [u8; 16],
+    name: usize,
+    size: u64,
+    flags: u16,
+    clean: bool,
+    left: usize,
+    input: &[u8],
+) -> Took
+    requires { ⌜ 0 < left ⌝ }
+    ensures { λ r. ⌜ ((m : List ℕ) → Absorbs turn (on (Shaking name (Filler size flags clean left)) m) (now (input .entry)) (r .taken) (on (view (r .state)) m)) ⌝ }
+{
+    let n = copy::least(left, input.len());
+    let still = all_zero(clean, &input[..n]);
+    let phase = filler(name, size, flags, still, left - n);
+    Took {
+        state: Client { phase, head },
+        taken: n,
+    }
+}
+
+// ---- the leaves put together
+
+// Takes what the phase takes of the input.
+pub fn absorb(head: [u8; 16], name: usize, p: Handshake, input: &[u8]) -> Took
+    requires { ⌜ (0 < length (now input)) × SoundShaking name (handshakeOf head p) ⌝ }
+    ensures { λ r. ⌜ ((m : List ℕ) → Absorbs turn (on (Shaking name (handshakeOf head p)) m) (now (input .entry)) (r .taken) (on (view (r .state)) m)) ⌝ }
+{
+    let same = Took {
+        state: Client {
+            phase: Phase::Shaking(name, p),
+            head,
+        },
+        taken: 0,
+    };
+    match p {
+        Handshake::Magic { have } => take_magic(head, name, have, input),
+        Handshake::Style { have } => take_style(head, name, have, input),
+        Handshake::Newstyle { left } => skip_flags(head, name, left, input.len()),
+        Handshake::Hello { left: _ } => same,
+        Handshake::Naming { left: _ } => same,
+        Handshake::Terms { old, have } => take_terms(head, name, old, have, input),
+        Handshake::Filler {
+            size,
+            flags,
+            clean,
+            left,
+        } => take_filler(head, name, size, flags, clean, left, input),
+    }
+}
+
+// Gives what the phase owes into the room.
+pub fn emit(head: [u8; 16], name: usize, p: Handshake, lent: &[u8], room: &mut [u8]) -> Gave
+    requires { ⌜ (name ≡ length (now lent)) × (name ≤ 4096) × SoundShaking name (handshakeOf head p) ⌝ }
+    ensures { λ r. ⌜ Emits turn (on (Shaking name (handshakeOf head p)) (now (lent .entry))) (now (room .entry)) (r .given) (on (view (r .state)) (now (lent .entry))) (now (room .exit)) ⌝ }
+{
+    let same = Gave {
+        state: Client {
+            phase: Phase::Shaking(name, p),
+            head,
+        },
+        given: 0,
+    };
+    match p {
+        Handshake::Magic { have: _ } => same,
+        Handshake::Style { have: _ } => same,
+        Handshake::Newstyle { left: _ } => same,
+        Handshake::Hello { left } => send_hello(head, name, left, room),
+        Handshake::Naming { left } => send_name(head, name, left, lent, room),
+        Handshake::Terms { old: _, have: _ } => same,
+        Handshake::Filler {
+            size: _,
+            flags: _,
+            clean: _,
+            left: _,
+        } => same,
+    }
+}

@@ -1,0 +1,491 @@
+// An NBD client without sockets: the host lends slices, and hands a state in and gets it back.
+pub mod calls;
+pub mod handshake;
+pub mod pieces;
+pub mod ranges;
+pub mod state;
+
+use calls::SeekFrom;
+use calls::Span;
+use machine::copy;
+use state::Call;
+use state::Client;
+use state::Device;
+use state::Gave;
+use state::Handshake;
+use state::Moved;
+use state::Outcome;
+use state::Phase;
+use state::Progress;
+use state::Took;
+use state::Value;
+use wire::number::Added;
+ghost use mathlib.Core.Path.{_≡_};
+ghost use mathlib.Core.List.{List};
+ghost use Prim.Native.Nat.{ℕ, _≤_};
+ghost use lib.ListN.{length};
+ghost use Rattle.machine.specs.Machine.{on};
+ghost use Rattle.machine.specs.Pieces.{Absorbs, Emits, Turns, Steps};
+ghost use Rattle.client.specs.Session.{Blank, Ready, turn};
+ghost use Rattle.client.specs.View.{view, viewOf, code, used};
+ghost use Rattle.client.specs.Ranges.{Sound};
+ghost use Rattle.client.specs.Contract.{
+  fresh,
+  answer,
+  refused,
+  may,
+  opened,
+  granted,
+  begun,
+  reading,
+  writing,
+  trimming,
+  flushing,
+  resizing,
+  seeking,
+  shakenAt,
+  shaken,
+  endOfInput,
+  known,
+  after,
+  outcomeOf,
+  Drives,
+};
+ghost use Rattle.client.specs.declared.state.Outcome.the-variants as outcome;
+
+pub struct Called {
+    pub state: Client,
+    pub outcome: Outcome,
+}
+
+pub struct Stepped {
+    pub state: Client,
+    pub taken: usize,
+    pub given: usize,
+    pub outcome: Outcome,
+}
+
+// What a user may ask of a client.
+pub enum Info {
+    Known(Device),
+    // before the handshake is closed, and after an end
+    Unknown,
+}
+
+// Whether a call may be made: on this device, or not, with 01's number.
+pub enum May {
+    On(Device),
+    Not(u8),
+}
+
+// How many bytes a call may move on this device, or none, with 01's number.
+pub enum Grant {
+    Bytes(Device, u32),
+    No(u8),
+}
+
+// ---- answers of calls
+
+fn refused(s: Client, why: u8) -> Called
+    ensures { λ r. ⌜ r ≡ refused why s ⌝ }
+{
+    Called {
+        state: s,
+        outcome: Outcome::Refused(why),
+    }
+}
+
+// A call that succeeds at once.
+fn ready(d: Device, value: Value) -> Called
+    ensures { λ r. ⌜ r ≡ answer (Ready d) (outcome.Succeeded value) ⌝ }
+{
+    Called {
+        state: Client {
+            phase: Phase::Ready(d),
+            head: [0u8; 16],
+        },
+        outcome: Outcome::Succeeded(value),
+    }
+}
+
+// A call that goes out.
+fn opened(d: Device, c: Call) -> Called
+    ensures { λ r. ⌜ r ≡ opened d c ⌝ }
+{
+    Called {
+        state: Client {
+            phase: Phase::Calling(d, c, Progress::Asking { left: 28 }),
+            head: [0u8; 16],
+        },
+        outcome: Outcome::Open,
+    }
+}
+
+// A read, a write or a trim, which goes out unless it moves no bytes.
+fn begun(d: Device, c: Call) -> Called
+    ensures { λ r. ⌜ r ≡ begun d c ⌝ }
+{
+    if calls::amount(c) == 0 {
+        let value = calls::value_of(c);
+        ready(d, value)
+    } else {
+        opened(d, c)
+    }
+}
+
+// ---- the end of a step
+
+// Where a client stands after it.
+fn after(p: Phase) -> Phase
+    ensures { λ r. ⌜ (used r ≡ used p) × ((h : List ℕ) → viewOf h r ≡ after (viewOf h p)) ⌝ }
+{
+    match p {
+        Phase::Blank => p,
+        Phase::Shaking(_, _) => p,
+        Phase::Ready(_) => p,
+        Phase::Calling(_, _, _) => p,
+        Phase::Closed(_, d) => Phase::Ready(d),
+        Phase::Over(_) => p,
+    }
+}
+
+// What a step ends with.
+fn told(p: Phase) -> Outcome
+    ensures { λ r. ⌜ ((h : List ℕ) → r ≡ outcomeOf (viewOf h p)) ⌝ }
+{
+    match p {
+        Phase::Blank => Outcome::Open,
+        Phase::Shaking(_, _) => Outcome::Open,
+        Phase::Ready(_) => Outcome::Open,
+        Phase::Calling(_, _, _) => Outcome::Open,
+        Phase::Closed(o, _) => o,
+        Phase::Over(n) => Outcome::Ended(n),
+    }
+}
+
+impl Client {
+    // A client before its handshake.
+    pub fn new() -> Client
+        ensures { λ r. ⌜ r ≡ fresh ⌝ }
+    {
+        Client {
+            phase: Phase::Blank,
+            head: [0u8; 16],
+        }
+    }
+
+    // ---- calls
+
+    // Whether a call may be made.
+    fn may(self) -> May
+        ensures { λ r. ⌜ r ≡ may self ⌝ }
+    {
+        if !ranges::in_range(self) {
+            return May::Not(53);
+        }
+        let p = self.phase;
+        match p {
+            Phase::Blank => May::Not(51),
+            Phase::Shaking(_, _) => May::Not(51),
+            Phase::Ready(d) => May::On(d),
+            Phase::Calling(_, _, _) => May::Not(51),
+            Phase::Closed(_, _) => May::Not(51),
+            Phase::Over(_) => May::Not(51),
+        }
+    }
+
+    // How many bytes a call may move that is asked to move k.
+    fn granted(self, k: u64) -> Grant
+        ensures { λ r. ⌜ r ≡ granted k self ⌝ }
+    {
+        let m = self.may();
+        match m {
+            May::On(d) => {
+                let n = calls::transfer(d, k);
+                match n {
+                    Span::Bytes(n) => Grant::Bytes(d, n),
+                    Span::Past => Grant::No(49),
+                }
+            }
+            May::Not(why) => Grant::No(why),
+        }
+    }
+
+    // Opens the handshake with a name of n bytes.
+    fn shake(self, n: usize) -> Called
+        ensures { λ r. ⌜ r ≡ shakenAt n self Blank ⌝ }
+    {
+        if n <= 4096 {
+            Called {
+                state: Client {
+                    phase: Phase::Shaking(n, Handshake::Magic { have: 0 }),
+                    head: [0u8; 16],
+                },
+                outcome: Outcome::Open,
+            }
+        } else {
+            refused(self, 44)
+        }
+    }
+
+    // Opens the handshake. The name is lent at each step until it is closed.
+    pub fn handshake(self, name: &[u8]) -> Called
+        ensures { λ r. ⌜ r ≡ shaken (length (now (name .entry))) self ⌝ }
+    {
+        if !ranges::in_range(self) {
+            return refused(self, 53);
+        }
+        let p = self.phase;
+        match p {
+            Phase::Blank => self.shake(name.len()),
+            Phase::Shaking(_, _) => refused(self, 51),
+            Phase::Ready(_) => refused(self, 51),
+            Phase::Calling(_, _, _) => refused(self, 51),
+            Phase::Closed(_, _) => refused(self, 51),
+            Phase::Over(_) => refused(self, 51),
+        }
+    }
+
+    // Opens a read into the buffer, which is lent at each step until it is closed.
+    pub fn read(self, buffer: &[u8]) -> Called
+        ensures { λ r. ⌜ r ≡ reading (length (now (buffer .entry))) self ⌝ }
+    {
+        let len = buffer.len();
+        let g = self.granted(len as u64);
+        match g {
+            Grant::Bytes(d, n) => begun(d, Call::Read { n, len }),
+            Grant::No(why) => refused(self, why),
+        }
+    }
+
+    // Opens a write of the buffer, which is lent at each step until it is closed.
+    pub fn write(self, buffer: &[u8]) -> Called
+        ensures { λ r. ⌜ r ≡ writing (length (now (buffer .entry))) self ⌝ }
+    {
+        let len = buffer.len();
+        let g = self.granted(len as u64);
+        match g {
+            Grant::Bytes(d, n) => begun(d, Call::Write { n, len }),
+            Grant::No(why) => refused(self, why),
+        }
+    }
+
+    pub fn trim(self, length: u64) -> Called
+        ensures { λ r. ⌜ r ≡ trimming length self ⌝ }
+    {
+        let g = self.granted(length);
+        match g {
+            Grant::Bytes(d, n) => begun(d, Call::Trim { n }),
+            Grant::No(why) => refused(self, why),
+        }
+    }
+
+    pub fn flush(self) -> Called
+        ensures { λ r. ⌜ r ≡ flushing self ⌝ }
+    {
+        let m = self.may();
+        match m {
+            May::On(d) => opened(d, Call::Flush),
+            May::Not(why) => refused(self, why),
+        }
+    }
+
+    pub fn resize(self, size: u64) -> Called
+        ensures { λ r. ⌜ r ≡ resizing size self ⌝ }
+    {
+        let m = self.may();
+        match m {
+            May::On(d) => opened(d, Call::Resize { size }),
+            May::Not(why) => refused(self, why),
+        }
+    }
+
+    pub fn seek(self, from: SeekFrom) -> Called
+        ensures { λ r. ⌜ r ≡ seeking from self ⌝ }
+    {
+        let m = self.may();
+        match m {
+            May::On(d) => {
+                let to = calls::sought(d, from);
+                match to {
+                    Added::Sum(p) => ready(calls::positioned(d, p), Value::Position(p)),
+                    Added::Outside => refused(self, 48),
+                }
+            }
+            May::Not(why) => refused(self, why),
+        }
+    }
+
+    // The host reports the end of input.
+    pub fn end_of_input(self) -> Called
+        ensures { λ r. ⌜ r ≡ endOfInput self ⌝ }
+    {
+        if !ranges::in_range(self) {
+            return refused(self, 53);
+        }
+        let over = Called {
+            state: Client {
+                phase: Phase::Over(50),
+                head: [0u8; 16],
+            },
+            outcome: Outcome::Ended(50),
+        };
+        let p = self.phase;
+        match p {
+            Phase::Blank => over,
+            Phase::Shaking(_, _) => over,
+            Phase::Ready(_) => over,
+            Phase::Calling(_, _, _) => over,
+            Phase::Closed(_, _) => over,
+            Phase::Over(n) => Called {
+                state: self,
+                outcome: Outcome::Ended(n),
+            },
+        }
+    }
+
+    // What a user asks: size, position and the five fields.
+    pub fn info(self) -> Info
+        ensures { λ r. ⌜ r ≡ known self ⌝ }
+    {
+        if !ranges::in_range(self) {
+            return Info::Unknown;
+        }
+        let p = self.phase;
+        match p {
+            Phase::Blank => Info::Unknown,
+            Phase::Shaking(_, _) => Info::Unknown,
+            Phase::Ready(d) => Info::Known(d),
+            Phase::Calling(d, _, _) => Info::Known(d),
+            Phase::Closed(_, d) => Info::Known(d),
+            Phase::Over(_) => Info::Unknown,
+        }
+    }
+
+    // ---- a step
+
+    // Takes what the phase takes of the input.
+    fn absorb(self, input: &[u8], lent: &mut [u8]) -> Took
+        requires { ⌜ Sound (length (now lent)) (view self) ⌝ }
+        ensures { λ r. ⌜ Absorbs turn (on (view self) (now (lent .entry))) (now (input .entry)) (r .taken) (on (view (r .state)) (now (lent .exit))) ⌝ }
+    {
+        let same = Took {
+            state: self,
+            taken: 0,
+        };
+        if input.len() == 0 {
+            return same;
+        }
+        let head = self.head;
+        let p = self.phase;
+        match p {
+            Phase::Blank => same,
+            Phase::Shaking(name, h) => handshake::absorb(head, name, h, input),
+            Phase::Ready(_) => same,
+            Phase::Calling(d, c, g) => calls::absorb(head, d, c, g, input, lent),
+            Phase::Closed(_, _) => same,
+            Phase::Over(_) => same,
+        }
+    }
+
+    // Gives what the phase owes into the room.
+    fn emit(self, lent: &[u8], room: &mut [u8]) -> Gave
+        requires { ⌜ Sound (length (now lent)) (view self) ⌝ }
+        ensures { λ r. ⌜ Emits turn (on (view self) (now (lent .entry))) (now (room .entry)) (r .given) (on (view (r .state)) (now (lent .entry))) (now (room .exit)) ⌝ }
+    {
+        let same = Gave {
+            state: self,
+            given: 0,
+        };
+        let head = self.head;
+        let p = self.phase;
+        match p {
+            Phase::Blank => same,
+            Phase::Shaking(name, h) => handshake::emit(head, name, h, lent, room),
+            Phase::Ready(_) => same,
+            Phase::Calling(d, c, g) => calls::emit(head, d, c, g, lent, room),
+            Phase::Closed(_, _) => same,
+            Phase::Over(_) => same,
+        }
+    }
+
+    // Takes, and then gives, as far as one phase goes each.
+    fn turn(self, input: &[u8], room: &mut [u8], lent: &mut [u8]) -> Moved
+        requires { ⌜ Sound (length (now lent)) (view self) ⌝ }
+        ensures { λ r. ⌜ Turns turn (on (view self) (now (lent .entry))) (now (input .entry)) (now (room .entry)) (r .taken) (r .given) (on (view (r .state)) (now (lent .exit))) (now (room .exit)) ⌝ }
+    {
+        let t = self.absorb(input, lent);
+        let mid = t.state;
+        let g = mid.emit(lent, room);
+        let state = g.state;
+        Moved {
+            state,
+            taken: t.taken,
+            given: g.given,
+        }
+    }
+
+    // Takes and gives as far as the input and the room go.
+    fn advance(self, input: &[u8], room: &mut [u8], lent: &mut [u8]) -> Moved
+        requires { ⌜ Sound (length (now lent)) (view self) ⌝ }
+        ensures { λ r. ⌜ Steps turn (on (view self) (now (lent .entry))) (now (input .entry)) (now (room .entry)) (r .taken) (r .given) (on (view (r .state)) (now (lent .exit))) (now (room .exit)) ⌝ }
+    {
+        let mut s = self;
+        let mut i = 0;
+        let mut o = 0;
+        loop {
+            let r = s.turn(&input[i..], &mut room[o..], lent);
+            s = r.state;
+            i += r.taken;
+            o += r.given;
+            if r.taken + r.given == 0 {
+                break;
+            }
+        }
+        Moved {
+            state: s,
+            taken: i,
+            given: o,
+        }
+    }
+
+    // The client as it is handed back, with 0 in the bytes of `head` that are not in use.
+    fn rested(self) -> Client
+        requires { ⌜ used (self .phase) ≤ 16 ⌝ }
+        ensures { λ r. ⌜ r ≡ code (after (view self)) ⌝ }
+    {
+        let p = self.phase;
+        let phase = after(p);
+        let k = ranges::used(phase);
+        let old = self.head;
+        let mut head = [0u8; 16];
+        copy::copy_part(&old, 0, &mut head, 0, k);
+        Client { phase, head }
+    }
+
+    // Takes input and gives output as far as both go. What is lent is the name or the open call's buffer.
+    pub fn step(self, input: &[u8], room: &mut [u8], lent: &mut [u8]) -> Stepped
+        ensures { λ r. ⌜ Drives self (now (lent .entry)) (now (input .entry)) (now (room .entry)) r (now (lent .exit)) (now (room .exit)) ⌝ }
+    {
+        let why = ranges::refusal(self, lent.len());
+        if why != 0 {
+            return Stepped {
+                state: self,
+                taken: 0,
+                given: 0,
+                outcome: Outcome::Refused(why),
+            };
+        }
+        let r = self.advance(input, room, lent);
+        let end = r.state;
+        let p = end.phase;
+        let outcome = told(p);
+        let state = end.rested();
+        Stepped {
+            state,
+            taken: r.taken,
+            given: r.given,
+            outcome,
+        }
+    }
+}
