@@ -7,7 +7,7 @@
 use Prim.Native.Nat.{ℕ, suc, _+_, _-_, _%_, _^_, _≤_, _<_}
 use mathlib.Core.Path.{_≡_, refl, sym, ap, _∙_}
 use mathlib.Core.Bool.{Bool, true, false}
-use mathlib.Core.List.{List, [], _∷_, _++_, append-nil, foldl}
+use mathlib.Core.List.{List, [], _∷_, _++_, append-nil, append-assoc, foldl}
 use native.Mathlib.Omega.{arith}
 use borrow.Author.Tests.{ne-eqb}
 use lib.Dec.{eqb}
@@ -23,12 +23,13 @@ use Rattle.wire.specs.Constants.{NBDMAGIC, IHAVEOPT, OLDSTYLE, NBD-REPLY-MAGIC}
 use Rattle.wire.specs.Layouts.{zeros, exportReply, oldstyleHeader, optionRequest, exportName, simpleReply}
 use Rattle.wire.proofs.BigEndian.{length-be, number-be}
 use Rattle.client.specs.Calls.{fieldsOf, device, payload, wanted, asks, valueOf, moved}
-use Rattle.client.specs.Session.{Magic, Style, Newstyle, Hello, Terms, Filler, Asking, Hearing, State, Shaking, Calling, Closed, owing, hello, magicked, styled, naming, greeting, newstyle, termed, judged, filler, done, filling, paying, asking, replied, heard, turn}
+use Rattle.client.specs.Session.{Magic, Style, Newstyle, Hello, Terms, Filler, Asking, Hearing, State, Shaking, Calling, Closed, hello, magicked, styled, naming, greeting, newstyle, termed, judged, filler, done, filling, paying, asking, replied, heard, turn}
 use Rattle.client.specs.declared.state.Device.{Device}
 use Rattle.client.specs.declared.state.Call.{Call}
 use Rattle.client.specs.declared.state.Value.the-variants.{Opened}
 use Rattle.client.specs.declared.state.Outcome.the-variants.{Succeeded, Failed}
-use Rattle.client.proofs.Zeros.{blank-fold, blank-zeros}
+use Rattle.machine.specs.Parts.{owing}
+use Rattle.machine.proofs.Zeros.{blank-fold, blank-zeros}
 use Rattle.client.proofs.Header.{magic-part, style-part, terms-part, reply-part}
 use Rattle.client.proofs.Runs.{each-owed, fills, length-hello, length-asks}
 
@@ -41,7 +42,7 @@ owed-run f l m each k e =
     rw (take-length l) at all
 
 -- bytes gathered until they are judged
-gathered-run : (wait judge : List ℕ → State) (to : ℕ) → ((h : List ℕ) → length h < to → judge h ≡ wait h) → (h m : List ℕ) → Gathers turn wait judge m
+pub gathered-run : (wait judge : List ℕ → State) (to : ℕ) → ((h : List ℕ) → length h < to → judge h ≡ wait h) → (h m : List ℕ) → Gathers turn wait judge m
     → length h ≡ to → 0 < to → Moves turn (on (wait []) m) h [] (on (judge h) m)
 gathered-run wait judge to quiet [] m each e some = absurd (omega arith)
 gathered-run wait judge to quiet (b ∷ h) m each e some =
@@ -168,6 +169,13 @@ hello-run name =
     let q : Moves turn (on (naming n n) name) [] name (on (Shaking n (Terms false [])) name) = owed-run (naming n) name name (λ _. refl) n refl in
     rw (hello-name name) at (then p q)
 
+pub greeted-run : (name hs : List ℕ) → length hs ≡ 2
+    → Moves turn (on (Shaking (length name) (Newstyle 2)) name) hs (exportName name) (on (Shaking (length name) (Terms false [])) name)
+greeted-run name hs two =
+    let n : ℕ = length name in
+    let b : Moves turn (on (newstyle n 2) name) hs [] (on (newstyle n 0) name) = drops turn (newstyle n) (λ _ _. refl) hs 2 0 name (omega arith) in
+    rw (append-nil hs) at (then b (hello-run name))
+
 pub handshake-new : (name hs : List ℕ) (size flags : ℕ) → length hs ≡ 2 → size < 2 ^ 64 → flags < 2 ^ 16
     → Moves turn (on (Shaking (length name) (Magic [])) name) (NBDMAGIC ++ IHAVEOPT ++ hs ++ exportReply size flags true) (exportName name)
     (on (Closed (Succeeded (Opened size (fieldsOf flags))) (device size flags)) name)
@@ -175,9 +183,8 @@ handshake-new name hs size flags two p q =
     let n : ℕ = length name in
     let a : Moves turn (on (Shaking n (Style [])) name) IHAVEOPT [] (on (Shaking n (Newstyle 2)) name) =
     rw (style-good n) at (gathered-run (λ h. Shaking n (Style h)) (styled n) 8 (style-part n) IHAVEOPT name (λ _. refl) refl (omega arith)) in
-    let b : Moves turn (on (newstyle n 2) name) hs [] (on (newstyle n 0) name) = drops turn (newstyle n) (λ _ _. refl) hs 2 0 name (omega arith) in
-    let c = then (hello-run name) (new-end n name size flags p q) in
-    rw (append-nil (exportName name)) at (then (then (then (magic-run n name) a) b) c)
+    let b = then (greeted-run name hs two) (new-end n name size flags p q) in
+    rw (append-nil (exportName name), ← append-assoc (NBDMAGIC ++ IHAVEOPT) hs (exportReply size flags true)) at (then (then (magic-run n name) a) b)
 
 pub handshake-old : (size flags : ℕ) → size < 2 ^ 64 → flags < 2 ^ 32
     → Moves turn (on (Shaking 0 (Magic [])) []) (oldstyleHeader size flags) []

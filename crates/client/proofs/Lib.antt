@@ -1,5 +1,4 @@
 pub mod Left
-pub mod Zeros
 pub mod Runs
 pub mod Header
 pub mod Sound
@@ -10,3 +9,4 @@ pub mod Alone
 pub mod Changes
 pub mod Closing
 pub mod Cut
+pub mod Cases

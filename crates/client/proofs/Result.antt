@@ -2,9 +2,10 @@
 --   same-result    two results of one step are equal: the client, the counts, the outcome, what is lent and the room
 --   same-answer    so are two answers of any other public function, whose contract is an equation
 --   in-ranges      a client that was reached from a fresh one is within its ranges: none of its calls or steps answers 53
+--   idle           a step of a client that rests, with nothing open or after an end, moves nothing and changes nothing but that a result is told once
 --   goes-on        a step that was not refused leaves a client that the next one, lent as much, does not refuse
 use Prim.Native.Nat.{ℕ, zero, suc, min, _-_, _≤_}
-use mathlib.Core.Path.{_≡_, refl, sym, _∙_}
+use mathlib.Core.Path.{_≡_, refl, sym, ap, _∙_}
 use mathlib.Core.Bool.{Bool, true, false}
 use mathlib.Core.List.{List, []}
 use mathlib.Core.Option.{Option, none, some}
@@ -12,14 +13,17 @@ use native.Mathlib.Omega.{arith}
 use borrow.Author.Tests.{eqb-false, ltb-false}
 use lib.Dec.{eqb, ltb, leb}
 use lib.ListN.{length}
+use lib.Seq.{length-take-le}
 use Rattle.machine.specs.Choice.{pick}
+use Rattle.machine.specs.Machine.{on, rests}
+use Rattle.machine.proofs.Moves.{resting}
 use Rattle.machine.proofs.Runs.{same-step}
 use Rattle.wire.specs.Numbers.{clamped}
 use Rattle.client.specs.Calls.{transfer, sought, amount, positioned, valueOf}
-use Rattle.client.specs.Session.{Magic, Asking, State, Blank, Shaking, Ready, Calling, Closed, Over}
+use Rattle.client.specs.Session.{Magic, Asking, State, Blank, Shaking, Ready, Calling, Closed, Over, turn}
 use Rattle.client.specs.View.{view, code}
 use Rattle.client.specs.Ranges.{ranged, inRange, lent, refusal, Fits, SoundCall}
-use Rattle.client.specs.Contract.{answer, refused, may, called, opened, grantedOn, grantedAt, begun, moving, soughtTo, shakenAt, endedAt, after, Drives}
+use Rattle.client.specs.Contract.{answer, refused, may, called, opened, grantedOn, grantedAt, begun, moving, soughtTo, shakenAt, endedAt, after, outcomeOf, Drives}
 use Rattle.client.specs.Reached.{Ask, to-shake, to-read, to-write, to-trim, to-flush, to-resize, to-seek, to-end, answered, Reached, at-first, by-call, by-step}
 use Rattle.client.specs.declared.state.Device.{Device}
 use Rattle.client.specs.declared.state.Call.{Call}
@@ -67,6 +71,20 @@ goes-on {self} {m} {r = r} {m′ = m′} p e =
     let a = p .accepts e in
     let f = sound (a .steps .goes .moves) (accepted (length m) self e) in
     rw (a .state, coded-range (after (a .place)) (sound-ranges (length m′) (a .place) f), viewed (after (a .place)), sound-lent (length m′) (a .place) f)
+
+pub idle : {self : Client} {m input room : List ℕ} {r : Stepped} {m′ room′ : List ℕ} → Drives self m input room r m′ room′
+    → refusal (length m) self ≡ 0 → turn (on (view self) m) ≡ rests
+    → (r ≡ record { state = code (after (view self)); taken = 0; given = 0; outcome = outcomeOf (view self) }) × (m′ ≡ m) × (room′ ≡ room)
+idle {self} {m} {input} {room} {r} {m′} {room′} p fine e =
+    let a = p .accepts fine in
+    let g = a .steps .goes in
+    let s = resting e (g .moves) in
+    let t : r .taken ≡ 0 = omega (arith, ap length (s .0), length-take-le (r .taken) input (g .within-input)) in
+    let o : r .given ≡ 0 = omega (arith, ap length (s .1), length-take-le (r .given) room′ (omega (arith, g .within-room, g .whole))) in
+    let x : a .place ≡ view self = cc (s .2) in
+    let whole : _≡_ {A = Stepped} (record { state = r .state; taken = r .taken; given = r .given; outcome = r .outcome }) (record { state = code (after (view self)); taken = 0; given = 0; outcome = outcomeOf (view self) }) =
+    rw (a .state, a .outcome, t, o, x) in
+    (whole, cc (s .2), rw o at (g .rest))
 
 step-range : {self : Client} {m input room : List ℕ} {r : Stepped} {m′ room′ : List ℕ} → Drives self m input room r m′ room′
     → inRange self ≡ true → inRange (r .state) ≡ true

@@ -21,14 +21,14 @@ use Rattle.machine.proofs.Leaves.{gather-leaf, send-leaf, drop-leaf, fold-leaf}
 use Rattle.wire.specs.Fields.{be}
 use Rattle.wire.specs.Layouts.{request}
 use Rattle.client.specs.Calls.{payload, wanted, asks}
-use Rattle.client.specs.Session.{Newstyle, Filler, Filling, State, Shaking, Calling, owing, hello, newstyle, filler, filling, turn}
-use Rattle.client.specs.Ranges.{blank, lentTo, SoundCall}
-use Rattle.client.specs.Pieces.{Gathers as Gathered, Gives}
+use Rattle.client.specs.Session.{Newstyle, Filler, Filling, State, Shaking, Calling, hello, newstyle, filler, filling, turn}
+use Rattle.client.specs.Ranges.{lentTo, SoundCall}
+use Rattle.machine.specs.Parts.{Gathered, Given, owing, blank}
 use Rattle.client.specs.declared.state.Device.{Device}
 use Rattle.client.specs.declared.state.Call.{Call}
 use Rattle.client.specs.declared.state.Call.the-variants.{Read, Write, Flush, Trim, Resize}
 use Rattle.client.proofs.Left.{newstyle-more, filler-more, filling-more}
-use Rattle.client.proofs.Zeros.{blank-fold}
+use Rattle.machine.proofs.Zeros.{blank-fold}
 
 -- ---- bytes gathered in the state, and judged when there are `to`
 module _ (wait judge : List ℕ → State) (to : ℕ) (quiet : (h : List ℕ) → length h < to → judge h ≡ wait h) where
@@ -46,7 +46,7 @@ module _ (f : ℕ → State) (l m : List ℕ) (each : (left : ℕ) → turn (on 
       each left ∙ ap (λ (k : ℕ). gives (getD l k 0) (on (f left) m)) i
 
   pub owed-leaf : {bytes room room′ : List ℕ} {left n : ℕ} {s x : State} → bytes ≡ l → 0 < left → left ≤ length l → s ≡ f left
-      → Gives bytes left room n room′ → x ≡ f (left - n) → Emits turn (on s m) room n (on x m) room′
+      → Given bytes left room n room′ → x ≡ f (left - n) → Emits turn (on s m) room n (on x m) room′
   owed-leaf {room = room} {left = left} {n = n} q some fits p g e =
       send-leaf (λ sent left. f left) l (length l) each-owed {off = length l - left} p (g .least) some (omega arith) (omega arith) e
       (g .written ∙ ap (λ (b : List ℕ). paste room 0 (drop (length b - left) b) n) q)

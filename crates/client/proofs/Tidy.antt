@@ -19,7 +19,7 @@ use Rattle.client.specs.declared.state.Progress as pr
 use Rattle.client.specs.declared.state.Phase as ph
 use Rattle.client.specs.declared.state.Client.{Client}
 use Rattle.client.proofs.Header.{taken-below, terms-most}
-use Rattle.client.proofs.Zeros.{blank-zeros}
+use Rattle.machine.proofs.Zeros.{blank-zeros}
 
 coded : (p : ph.Phase) (h : List ℕ) → length h ≡ 16 → used p ≤ 16
     → code (viewOf h p) ≡ record { phase = p; head = take (used p) h ++ replicate (16 - used p) 0 }

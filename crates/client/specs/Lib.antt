@@ -2,7 +2,6 @@ pub mod Calls
 pub mod Session
 pub mod View
 pub mod Ranges
-pub mod Pieces
 pub mod Contract
 pub mod Reached
 pub mod Driven

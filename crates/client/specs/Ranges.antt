@@ -8,11 +8,11 @@
 use Prim.Native.Nat.{ℕ, _+_, _≤_, _<_}
 use mathlib.Core.Path.{_≡_}
 use mathlib.Core.Bool.{Bool, true, false}
-use mathlib.Core.List.{List, [], _∷_}
 use lib.Dec.{eqb, ltb, leb}
 use lib.ListN.{length, drop}
 use Rattle.machine.specs.Choice.{pick, both, either, between}
 use Rattle.machine.specs.Machine.{On, on}
+use Rattle.machine.specs.Parts.{blank}
 use Rattle.client.specs.Calls.{payload, wanted}
 use Rattle.client.specs.Session.{Handshake, Magic, Style, Newstyle, Hello, Naming, Terms, Filler, Progress, Asking, Paying, Hearing, Filling}
 use Rattle.client.specs.Session.{State, Blank, Shaking, Ready, Calling, Closed, Over, termsLength}
@@ -62,10 +62,6 @@ ranged (Closed o d) = false
 ranged (Over n) = ends n
 
 -- ---- zeros in what is not used
-abbrev pub blank : List ℕ → Bool
-blank [] = true
-blank (b ∷ l) = both (eqb b 0) (blank l)
-
 abbrev pub tidy : Client → Bool
 tidy s = blank (drop (used (s .phase)) (s .head))
 

@@ -14,10 +14,11 @@ use Prim.Native.Nat.{ℕ, zero, suc, _-_, _%_, _^_}
 use mathlib.Core.Bool.{Bool, true, false}
 use mathlib.Core.List.{List, [], _∷_, _++_}
 use lib.Dec.{eqb, ltb}
-use lib.ListN.{length, getD, set, take}
+use lib.ListN.{length, set, take}
 use Rattle.machine.specs.Choice.{pick, both}
 use Rattle.machine.specs.Machine.{On, on, Turn, gives, takes, rests}
 use Rattle.machine.specs.Bulk.{less}
+use Rattle.machine.specs.Parts.{owing}
 use Rattle.wire.specs.Fields.{be, field, sameBytes}
 use Rattle.wire.specs.Constants.{NBDMAGIC, IHAVEOPT, OLDSTYLE, NBD-REPLY-MAGIC, NBD-FLAG-C-FIXED-NEWSTYLE, NBD-OPT-EXPORT-NAME}
 use Rattle.client.specs.Calls.{fieldsOf, device, payload, wanted, asks, valueOf, moved}
@@ -49,10 +50,6 @@ pub data State : Type 0 where
   Calling : Device → Call → Progress → State
   Closed : Outcome → Device → State  -- a call or the handshake was just closed, with this outcome
   Over : ℕ → State  -- the session has ended, with this number
-
--- the byte of l that comes next where so many are left
-abbrev pub owing : List ℕ → ℕ → ℕ
-owing l left = getD l (length l - left) 0
 
 -- ---- the handshake
 -- "New style sends, after 18 bytes, 00000001, IHAVEOPT, 1, name length, name": what stands before the name

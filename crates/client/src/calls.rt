@@ -1,5 +1,5 @@
 // The calls: how many bytes they move, their requests, their replies, and what a success changes.
-use crate::pieces;
+use crate::state;
 use crate::state::Call;
 use crate::state::Client;
 use crate::state::Device;
@@ -10,6 +10,7 @@ use crate::state::Progress;
 use crate::state::Took;
 use crate::state::Value;
 use machine::copy;
+use machine::parts;
 use wire::consts;
 use wire::fields;
 use wire::number;
@@ -301,7 +302,7 @@ fn ask(head: [u8; 16], d: Device, c: Call, left: usize, room: &mut [u8]) -> Gave
     ensures { λ r. ⌜ ((m : List ℕ) → Emits turn (on (Calling d c (Asking left)) m) (now (room .entry)) (r .given) (on (view (r .state)) m) (now (room .exit))) ⌝ }
 {
     let bytes = asks(d, c);
-    let n = pieces::give(&bytes, left, room);
+    let n = parts::give(&bytes, left, room);
     let phase = asking(d, c, left - n);
     Gave {
         state: Client { phase, head },
@@ -315,7 +316,7 @@ fn pay(head: [u8; 16], d: Device, c: Call, left: usize, lent: &[u8], room: &mut 
     ensures { λ r. ⌜ Emits turn (on (Calling d c (Paying left)) (now (lent .entry))) (now (room .entry)) (r .given) (on (view (r .state)) (now (lent .entry))) (now (room .exit)) ⌝ }
 {
     let all = payload(c) as usize;
-    let n = pieces::give(&lent[..all], left, room);
+    let n = parts::give(&lent[..all], left, room);
     let phase = paying(d, c, left - n);
     Gave {
         state: Client { phase, head },
@@ -328,7 +329,7 @@ fn hear(head: [u8; 16], d: Device, c: Call, have: usize, input: &[u8]) -> Took
     ensures { λ r. ⌜ ((m : List ℕ) → Absorbs turn (on (Calling d c (Hearing (take have head))) m) (now (input .entry)) (r .taken) (on (view (r .state)) m)) ⌝ }
 {
     let mut bytes = head;
-    let n = pieces::gather(&mut bytes, have, 16, input);
+    let n = parts::gather(&mut bytes, have, 16, input);
     let phase = heard(d, c, bytes, have + n);
     Took {
         state: Client { phase, head: bytes },
@@ -365,16 +366,9 @@ pub fn absorb(
     requires { ⌜ (0 < length (now input)) × (lentTo c ≡ length (now lent)) × SoundCall d c × SoundProgress c (progressOf head p) ⌝ }
     ensures { λ r. ⌜ Absorbs turn (on (Calling d c (progressOf head p)) (now (lent .entry))) (now (input .entry)) (r .taken) (on (view (r .state)) (now (lent .exit))) ⌝ }
 {
-    let same = Took {
-        state: Client {
-            phase: Phase::Calling(d, c, p),
-            head,
-        },
-        taken: 0,
-    };
     match p {
-        Progress::Asking { left: _ } => same,
-        Progress::Paying { left: _ } => same,
+        Progress::Asking { left: _ } => state::takes_none(Phase::Calling(d, c, p), head),
+        Progress::Paying { left: _ } => state::takes_none(Phase::Calling(d, c, p), head),
         Progress::Hearing { have } => hear(head, d, c, have, input),
         Progress::Filling { left } => fill(head, d, c, left, input, lent),
     }
@@ -385,17 +379,10 @@ pub fn emit(head: [u8; 16], d: Device, c: Call, p: Progress, lent: &[u8], room: 
     requires { ⌜ (lentTo c ≡ length (now lent)) × SoundCall d c × SoundProgress c (progressOf head p) ⌝ }
     ensures { λ r. ⌜ Emits turn (on (Calling d c (progressOf head p)) (now (lent .entry))) (now (room .entry)) (r .given) (on (view (r .state)) (now (lent .entry))) (now (room .exit)) ⌝ }
 {
-    let same = Gave {
-        state: Client {
-            phase: Phase::Calling(d, c, p),
-            head,
-        },
-        given: 0,
-    };
     match p {
         Progress::Asking { left } => ask(head, d, c, left, room),
         Progress::Paying { left } => pay(head, d, c, left, lent, room),
-        Progress::Hearing { have: _ } => same,
-        Progress::Filling { left: _ } => same,
+        Progress::Hearing { have: _ } => state::gives_none(Phase::Calling(d, c, p), head),
+        Progress::Filling { left: _ } => state::gives_none(Phase::Calling(d, c, p), head),
     }
 }

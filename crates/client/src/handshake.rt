@@ -1,5 +1,5 @@
 // The handshake: both styles, up to the 152nd byte.
-use crate::pieces;
+use crate::state;
 use crate::state::Client;
 use crate::state::Device;
 use crate::state::Fields;
@@ -10,6 +10,7 @@ use crate::state::Phase;
 use crate::state::Took;
 use crate::state::Value;
 use machine::copy;
+use machine::parts;
 use wire::consts;
 use wire::fields;
 ghost use mathlib.Core.Path.{_≡_};
@@ -43,7 +44,8 @@ ghost use Rattle.client.specs.Session.{
   turn,
 };
 ghost use Rattle.client.specs.View.{view, viewOf, handshakeOf};
-ghost use Rattle.client.specs.Ranges.{blank, Some, SoundShaking};
+ghost use Rattle.machine.specs.Parts.{blank};
+ghost use Rattle.client.specs.Ranges.{Some, SoundShaking};
 
 // ---- the flags
 
@@ -250,11 +252,7 @@ fn hello(n: u32) -> [u8; 20]
 fn all_zero(clean: bool, bytes: &[u8]) -> bool
     ensures { λ r. ⌜ r ≡ both clean (blank (now (bytes .entry))) ⌝ }
 {
-    if clean {
-        pieces::blank(bytes, 0)
-    } else {
-        false
-    }
+    if clean { parts::blank(bytes, 0) } else { false }
 }
 
 fn take_magic(head: [u8; 16], name: usize, have: usize, input: &[u8]) -> Took
@@ -262,7 +260,7 @@ fn take_magic(head: [u8; 16], name: usize, have: usize, input: &[u8]) -> Took
     ensures { λ r. ⌜ ((m : List ℕ) → Absorbs turn (on (Shaking name (Magic (take have head))) m) (now (input .entry)) (r .taken) (on (view (r .state)) m)) ⌝ }
 {
     let mut bytes = head;
-    let n = pieces::gather(&mut bytes, have, 8, input);
+    let n = parts::gather(&mut bytes, have, 8, input);
     let phase = magicked(name, bytes, have + n);
     Took {
         state: Client { phase, head: bytes },
@@ -275,7 +273,7 @@ fn take_style(head: [u8; 16], name: usize, have: usize, input: &[u8]) -> Took
     ensures { λ r. ⌜ ((m : List ℕ) → Absorbs turn (on (Shaking name (Style (take have head))) m) (now (input .entry)) (r .taken) (on (view (r .state)) m)) ⌝ }
 {
     let mut bytes = head;
-    let n = pieces::gather(&mut bytes, have, 8, input);
+    let n = parts::gather(&mut bytes, have, 8, input);
     let phase = styled(name, bytes, have + n);
     Took {
         state: Client { phase, head: bytes },
@@ -301,7 +299,7 @@ fn send_hello(head: [u8; 16], name: usize, left: usize, room: &mut [u8]) -> Gave
     ensures { λ r. ⌜ ((m : List ℕ) → Emits turn (on (Shaking name (Hello left)) m) (now (room .entry)) (r .given) (on (view (r .state)) m) (now (room .exit))) ⌝ }
 {
     let bytes = hello(name as u32);
-    let n = pieces::give(&bytes, left, room);
+    let n = parts::give(&bytes, left, room);
     let phase = greeting(name, left - n);
     Gave {
         state: Client { phase, head },
@@ -313,7 +311,7 @@ fn send_name(head: [u8; 16], name: usize, left: usize, lent: &[u8], room: &mut [
     requires { ⌜ (name ≡ length (now lent)) × Some name left ⌝ }
     ensures { λ r. ⌜ Emits turn (on (Shaking name (Naming left)) (now (lent .entry))) (now (room .entry)) (r .given) (on (view (r .state)) (now (lent .entry))) (now (room .exit)) ⌝ }
 {
-    let n = pieces::give(lent, left, room);
+    let n = parts::give(lent, left, room);
     let phase = naming(name, left - n);
     Gave {
         state: Client { phase, head },
@@ -326,7 +324,7 @@ fn take_terms(head: [u8; 16], name: usize, old: bool, have: usize, input: &[u8])
     ensures { λ r. ⌜ ((m : List ℕ) → Absorbs turn (on (Shaking name (Terms old (take have head))) m) (now (input .entry)) (r .taken) (on (view (r .state)) m)) ⌝ }
 {
     let mut bytes = head;
-    let n = pieces::gather(&mut bytes, have, terms_length(old), input);
+    let n = parts::gather(&mut bytes, have, terms_length(old), input);
     let phase = termed(name, old, bytes, have + n);
     Took {
         state: Client { phase, head: bytes },
@@ -362,19 +360,12 @@ pub fn absorb(head: [u8; 16], name: usize, p: Handshake, input: &[u8]) -> Took
     requires { ⌜ (0 < length (now input)) × SoundShaking name (handshakeOf head p) ⌝ }
     ensures { λ r. ⌜ ((m : List ℕ) → Absorbs turn (on (Shaking name (handshakeOf head p)) m) (now (input .entry)) (r .taken) (on (view (r .state)) m)) ⌝ }
 {
-    let same = Took {
-        state: Client {
-            phase: Phase::Shaking(name, p),
-            head,
-        },
-        taken: 0,
-    };
     match p {
         Handshake::Magic { have } => take_magic(head, name, have, input),
         Handshake::Style { have } => take_style(head, name, have, input),
         Handshake::Newstyle { left } => skip_flags(head, name, left, input.len()),
-        Handshake::Hello { left: _ } => same,
-        Handshake::Naming { left: _ } => same,
+        Handshake::Hello { left: _ } => state::takes_none(Phase::Shaking(name, p), head),
+        Handshake::Naming { left: _ } => state::takes_none(Phase::Shaking(name, p), head),
         Handshake::Terms { old, have } => take_terms(head, name, old, have, input),
         Handshake::Filler {
             size,
@@ -390,25 +381,18 @@ pub fn emit(head: [u8; 16], name: usize, p: Handshake, lent: &[u8], room: &mut [
     requires { ⌜ (name ≡ length (now lent)) × (name ≤ 4096) × SoundShaking name (handshakeOf head p) ⌝ }
     ensures { λ r. ⌜ Emits turn (on (Shaking name (handshakeOf head p)) (now (lent .entry))) (now (room .entry)) (r .given) (on (view (r .state)) (now (lent .entry))) (now (room .exit)) ⌝ }
 {
-    let same = Gave {
-        state: Client {
-            phase: Phase::Shaking(name, p),
-            head,
-        },
-        given: 0,
-    };
     match p {
-        Handshake::Magic { have: _ } => same,
-        Handshake::Style { have: _ } => same,
-        Handshake::Newstyle { left: _ } => same,
+        Handshake::Magic { have: _ } => state::gives_none(Phase::Shaking(name, p), head),
+        Handshake::Style { have: _ } => state::gives_none(Phase::Shaking(name, p), head),
+        Handshake::Newstyle { left: _ } => state::gives_none(Phase::Shaking(name, p), head),
         Handshake::Hello { left } => send_hello(head, name, left, room),
         Handshake::Naming { left } => send_name(head, name, left, lent, room),
-        Handshake::Terms { old: _, have: _ } => same,
+        Handshake::Terms { old: _, have: _ } => state::gives_none(Phase::Shaking(name, p), head),
         Handshake::Filler {
             size: _,
             flags: _,
             clean: _,
             left: _,
-        } => same,
+        } => state::gives_none(Phase::Shaking(name, p), head),
     }
 }

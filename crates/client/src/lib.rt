@@ -1,7 +1,6 @@
 // An NBD client without sockets: the host lends slices, and hands a state in and gets it back.
 pub mod calls;
 pub mod handshake;
-pub mod pieces;
 pub mod ranges;
 pub mod state;
 
@@ -26,7 +25,7 @@ ghost use Prim.Native.Nat.{ℕ, _≤_};
 ghost use lib.ListN.{length};
 ghost use Rattle.machine.specs.Machine.{on};
 ghost use Rattle.machine.specs.Pieces.{Absorbs, Emits, Turns, Steps};
-ghost use Rattle.client.specs.Session.{Blank, Ready, turn};
+ghost use Rattle.client.specs.Session.{Blank, Ready, Over, turn};
 ghost use Rattle.client.specs.View.{view, viewOf, code, used};
 ghost use Rattle.client.specs.Ranges.{Sound};
 ghost use Rattle.client.specs.Contract.{
@@ -130,6 +129,19 @@ fn begun(d: Device, c: Call) -> Called
         ready(d, value)
     } else {
         opened(d, c)
+    }
+}
+
+// The end of input, where the session has not ended.
+fn ended() -> Called
+    ensures { λ r. ⌜ r ≡ answer (Over 50) (outcome.Ended 50) ⌝ }
+{
+    Called {
+        state: Client {
+            phase: Phase::Over(50),
+            head: [0u8; 16],
+        },
+        outcome: Outcome::Ended(50),
     }
 }
 
@@ -323,20 +335,13 @@ impl Client {
         if !ranges::in_range(self) {
             return refused(self, 53);
         }
-        let over = Called {
-            state: Client {
-                phase: Phase::Over(50),
-                head: [0u8; 16],
-            },
-            outcome: Outcome::Ended(50),
-        };
         let p = self.phase;
         match p {
-            Phase::Blank => over,
-            Phase::Shaking(_, _) => over,
-            Phase::Ready(_) => over,
-            Phase::Calling(_, _, _) => over,
-            Phase::Closed(_, _) => over,
+            Phase::Blank => ended(),
+            Phase::Shaking(_, _) => ended(),
+            Phase::Ready(_) => ended(),
+            Phase::Calling(_, _, _) => ended(),
+            Phase::Closed(_, _) => ended(),
             Phase::Over(n) => Called {
                 state: self,
                 outcome: Outcome::Ended(n),
@@ -369,22 +374,21 @@ impl Client {
         requires { ⌜ Sound (length (now lent)) (view self) ⌝ }
         ensures { λ r. ⌜ Absorbs turn (on (view self) (now (lent .entry))) (now (input .entry)) (r .taken) (on (view (r .state)) (now (lent .exit))) ⌝ }
     {
-        let same = Took {
-            state: self,
-            taken: 0,
-        };
         if input.len() == 0 {
-            return same;
+            return Took {
+                state: self,
+                taken: 0,
+            };
         }
         let head = self.head;
         let p = self.phase;
         match p {
-            Phase::Blank => same,
+            Phase::Blank => state::takes_none(p, head),
             Phase::Shaking(name, h) => handshake::absorb(head, name, h, input),
-            Phase::Ready(_) => same,
+            Phase::Ready(_) => state::takes_none(p, head),
             Phase::Calling(d, c, g) => calls::absorb(head, d, c, g, input, lent),
-            Phase::Closed(_, _) => same,
-            Phase::Over(_) => same,
+            Phase::Closed(_, _) => state::takes_none(p, head),
+            Phase::Over(_) => state::takes_none(p, head),
         }
     }
 
@@ -393,19 +397,15 @@ impl Client {
         requires { ⌜ Sound (length (now lent)) (view self) ⌝ }
         ensures { λ r. ⌜ Emits turn (on (view self) (now (lent .entry))) (now (room .entry)) (r .given) (on (view (r .state)) (now (lent .entry))) (now (room .exit)) ⌝ }
     {
-        let same = Gave {
-            state: self,
-            given: 0,
-        };
         let head = self.head;
         let p = self.phase;
         match p {
-            Phase::Blank => same,
+            Phase::Blank => state::gives_none(p, head),
             Phase::Shaking(name, h) => handshake::emit(head, name, h, lent, room),
-            Phase::Ready(_) => same,
+            Phase::Ready(_) => state::gives_none(p, head),
             Phase::Calling(d, c, g) => calls::emit(head, d, c, g, lent, room),
-            Phase::Closed(_, _) => same,
-            Phase::Over(_) => same,
+            Phase::Closed(_, _) => state::gives_none(p, head),
+            Phase::Over(_) => state::gives_none(p, head),
         }
     }
 

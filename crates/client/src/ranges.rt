@@ -1,12 +1,12 @@
 // What is refused: a state outside the ranges of docs/STATES.md, and another length of what is lent.
 use crate::calls;
-use crate::pieces;
 use crate::state::Call;
 use crate::state::Client;
 use crate::state::Device;
 use crate::state::Handshake;
 use crate::state::Phase;
 use crate::state::Progress;
+use machine::parts;
 ghost use mathlib.Core.Path.{_≡_};
 ghost use mathlib.Core.List.{List};
 ghost use Prim.Native.Nat.{ℕ};
@@ -177,7 +177,7 @@ pub fn in_range(s: Client) -> bool
     let head = s.head;
     let p = s.phase;
     let k = used(p);
-    if pieces::blank(&head, k) {
+    if parts::blank(&head, k) {
         ranged(head, p)
     } else {
         false

@@ -1,6 +1,7 @@
 -- Headers: bytes gathered in the state up to the next place where they are judged.
 --   gathered-leaf    one piece of a header is moves of the machine
 --   flags-.., option-.., request-..    the first k bytes of each, of the 28 in the array
+--   each-.., quiet-..   each gathers bytes, and judges none before the next place
 --   until-..         the next place is past the bytes that are there
 use Prim.Native.Nat.{ℕ, zero, suc, _+_, _-_, _≤_, _<_}
 use mathlib.Core.Path.{_≡_, refl, sym, ap, _∙_}
@@ -23,7 +24,7 @@ use Rattle.wire.specs.declared.table.Export.{Export}
 use Rattle.server.specs.Request.{requestOf, owed}
 use Rattle.server.specs.Session.{State, ClientFlags, OptionHead, Shaking, Header, Serving, Over}
 use Rattle.server.specs.Session.{flagged, payload, opted, optionUntil, begun, requested, requestUntil, turn}
-use Rattle.server.specs.Pieces.{Gathers as Gathered}
+use Rattle.machine.specs.Parts.{Gathered}
 
 drop-take : (i j : ℕ) (h : List ℕ) → drop i (take (i + j) h) ≡ take j (drop i h)
 drop-take zero j h = rw (zero-add j)
@@ -63,7 +64,7 @@ module _ (e : Export) (h : List ℕ) (k : ℕ) (long : length h ≡ 28) where
   unfolding requested
   request-whole q = rw (take-all k h (omega arith), long)
 
-each-request : (t : List ℕ) (e : Export) (m : List ℕ) → Gathers (turn t) (λ got. Serving e (Header got)) (requested e) m
+pub each-request : (t : List ℕ) (e : Export) (m : List ℕ) → Gathers (turn t) (λ got. Serving e (Header got)) (requested e) m
 each-request t e m got = refl
 
 pub until-request : (k : ℕ) → k < 28 → (k < requestUntil k) × (requestUntil k ≤ 28)
@@ -73,7 +74,7 @@ until-request k h = go (ltb k 4) refl
     go true e = (ltb-true k 4 e, omega arith)
     go false e = (h, omega arith)
 
-quiet-request : (t : List ℕ) (e : Export) (k : ℕ) → Quiet (turn t) (λ got. Serving e (Header got)) (requested e) k (requestUntil k)
+pub quiet-request : (t : List ℕ) (e : Export) (k : ℕ) → Quiet (turn t) (λ got. Serving e (Header got)) (requested e) k (requestUntil k)
 unfolding requested
 quiet-request t e k = go (ltb k 4) refl
   where
@@ -109,10 +110,10 @@ module _ (h : List ℕ) (k : ℕ) (long : length h ≡ 28) where
   unfolding flagged
   flags-other p q a b = let f = flags-four p q in rw (f .0, f .1, ne-eqb (field h 0 4) 1 a, ne-eqb (field h 0 4) 3 b)
 
-each-flags : (t m : List ℕ) → Gathers (turn t) (λ got. Shaking (ClientFlags got)) flagged m
+pub each-flags : (t m : List ℕ) → Gathers (turn t) (λ got. Shaking (ClientFlags got)) flagged m
 each-flags t m got = refl
 
-quiet-flags : (t : List ℕ) (k : ℕ) → Quiet (turn t) (λ got. Shaking (ClientFlags got)) flagged k 4
+pub quiet-flags : (t : List ℕ) (k : ℕ) → Quiet (turn t) (λ got. Shaking (ClientFlags got)) flagged k 4
 unfolding flagged
 quiet-flags t k h lo hi = rw (lt-ltb (length h) 4 hi)
 
@@ -142,7 +143,7 @@ module _ (z : Bool) (t h : List ℕ) (k : ℕ) (long : length h ≡ 28) where
       let e : k ≡ 16 = omega arith in
       rw (e, length-take-le 16 h (omega arith), field-take h 16 8 4 (omega arith), field-take h 16 12 4 (omega arith))
 
-each-option : (z : Bool) (t m : List ℕ) → Gathers (turn t) (λ got. Shaking (OptionHead z got)) (opted z t) m
+pub each-option : (z : Bool) (t m : List ℕ) → Gathers (turn t) (λ got. Shaking (OptionHead z got)) (opted z t) m
 each-option z t m got = refl
 
 pub until-option : (k : ℕ) → k < 16 → (k < optionUntil k) × (optionUntil k ≤ 16)
@@ -152,7 +153,7 @@ until-option k h = go (ltb k 8) refl
     go true e = (ltb-true k 8 e, omega arith)
     go false e = (h, omega arith)
 
-quiet-option : (z : Bool) (t : List ℕ) (k : ℕ) → Quiet (turn t) (λ got. Shaking (OptionHead z got)) (opted z t) k (optionUntil k)
+pub quiet-option : (z : Bool) (t : List ℕ) (k : ℕ) → Quiet (turn t) (λ got. Shaking (OptionHead z got)) (opted z t) k (optionUntil k)
 unfolding opted
 quiet-option z t k = go (ltb k 8) refl
   where

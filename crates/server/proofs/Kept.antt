@@ -1,5 +1,6 @@
 -- What each turn keeps: the image's length, and that a step would not be refused.
---   still-good, next-good   a state that a step accepts leads to such states, with the same table and an image as long
+--   picked                  what is picked has what both have
+--   kept-good, still-good, next-good   a state that a step accepts leads to such states, with the same table and an image as long
 use Prim.Native.Nat.{ℕ, zero, suc, _+_, _≤_, _<_}
 use mathlib.Core.Path.{_≡_, refl, _∙_}
 use mathlib.Core.Bool.{Bool, true, false, not}
@@ -33,7 +34,7 @@ use Rattle.server.proofs.Bounds.{between-true, some-within, passing-bou
 use Rattle.server.proofs.Records.{first-none, accepted-at}
 
 -- what is picked has what both have
-picked : {A : Type 0} (P : A → Type 0) (b : Bool) {x y : A} → (b ≡ true → P x) → (b ≡ false → P y) → P (pick b x y)
+pub picked : {A : Type 0} (P : A → Type 0) (b : Bool) {x y : A} → (b ≡ true → P x) → (b ≡ false → P y) → P (pick b x y)
 picked P true f g = f refl
 picked P false f g = g refl
 
@@ -219,7 +220,7 @@ less-fits off zero k s h = absurd (omega arith)
 less-fits off (suc left) k s h = omega arith
 
 module _ (t : List ℕ) (n : ℕ) where
-  pub Stands : On State → Type 0
+  unfoldable pub Stands : On State → Type 0
   Stands (on x m) = (length m ≡ n) × Good t n x
 
   table-sound : {p : Handshake} → Good t n (Shaking p) → fault n t ≡ 0

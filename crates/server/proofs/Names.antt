@@ -1,5 +1,7 @@
 -- A name that passes: each byte changes what is known of it.
+--   Seen, sees  what is known of a name so far, and one byte more
 --   seen        what a part of a name leaves: its exports, its text and its place
+--   each-seen   so the bytes of a name are taken
 --   name-leaf   a part of a name is moves of the machine
 use Prim.Native.Nat.{ℕ, suc, min, _+_, _-_, _^_, _<_}
 use mathlib.Core.Path.{_≡_, refl, sym, ap, _∙_}
@@ -19,12 +21,12 @@ use Rattle.wire.proofs.Words.{word-lt, bits-word, word-bits, length-bits}
 use Rattle.server.specs.Session.{State, Naming, Shaking, naming, turn}
 use Rattle.server.proofs.Left.{naming-more}
 
-record Seen : Type 0 where
-  fits : ℕ
-  text : Utf8
-  at : ℕ
+pub record Seen : Type 0 where
+  pub fits : ℕ
+  pub text : Utf8
+  pub at : ℕ
 
-abbrev sees : List ℕ → Seen → ℕ → Seen
+abbrev pub sees : List ℕ → Seen → ℕ → Seen
 sees t v b = record { fits = word (narrowed (records t) (v .at) b (bits 32 (v .fits))); text = next (v .text) b; at = suc (v .at) }
 
 length-narrowed : (rs : List Record) (i b : ℕ) (xs : List Bool) → length (narrowed rs i b xs) ≡ length xs
@@ -32,7 +34,7 @@ length-narrowed rs i b [] = refl
 length-narrowed [] i b (x ∷ xs) = ap suc (length-narrowed [] i b xs)
 length-narrowed (r ∷ rs) i b (x ∷ xs) = ap suc (length-narrowed rs i b xs)
 
-seen : (t part : List ℕ) (fits : ℕ) (text : Utf8) (at : ℕ) → fits < 2 ^ 32
+pub seen : (t part : List ℕ) (fits : ℕ) (text : Utf8) (at : ℕ) → fits < 2 ^ 32
     → foldl (sees t) (record { fits = fits; text = text; at = at }) part
     ≡ record { fits = word (narrowedBy (records t) at part (bits 32 fits)); text = run text part; at = at + length part }
 seen t [] fits text at h =
@@ -45,10 +47,10 @@ seen t (b ∷ part) fits text at h =
     let i : suc at + length part ≡ at + suc (length part) = omega arith in
     rw (seen t part (word xs) (next text b) (suc at) k, bits-word xs 32 l, i)
 
-abbrev stands : Bool → List ℕ → Seen → ℕ → State
+abbrev pub stands : Bool → List ℕ → Seen → ℕ → State
 stands z t v left = naming z t (v .fits) (v .text) (v .at) left
 
-each-seen : (z : Bool) (t m : List ℕ) → Folds (turn t) (stands z t) (sees t) m
+pub each-seen : (z : Bool) (t m : List ℕ) → Folds (turn t) (stands z t) (sees t) m
 each-seen z t m v left = refl
 
 pub name-leaf : (z : Bool) (t m : List ℕ) (fits : ℕ) (text : Utf8) (at : ℕ) {input : List ℕ} {left n : ℕ} {x : State} → fits < 2 ^ 32 → 0 < left → n ≡ min left (length input)

@@ -1,5 +1,5 @@
 -- The session's runs of bytes, by machine's laws.
---   owed-leaf     bytes of a reply are moves of the machine
+--   each-owed, owed-leaf   bytes of a reply are moves of the machine
 --   each-..       the runs of bytes that are dropped and sent
 --   length-..     the replies' lengths
 use Prim.Native.Nat.{ℕ, suc, _-_, _≤_, _<_}
@@ -16,18 +16,18 @@ use Rattle.machine.proofs.Leaves.{send-leaf}
 use Rattle.wire.specs.Fields.{be}
 use Rattle.wire.specs.Layouts.{greeting, optionReply, optionReplyHead, exportReply, oldstyleHeader, simpleReply}
 use Rattle.wire.specs.declared.table.Export.{Export}
-use Rattle.server.specs.Session.{State, sending, dropping, passing, listReplies, exported, replyLength, window, owing, turn}
-use Rattle.server.specs.Pieces.{Gives}
+use Rattle.server.specs.Session.{State, sending, dropping, passing, listReplies, exported, replyLength, window, turn}
+use Rattle.machine.specs.Parts.{Given, owing}
 
 -- a reply l, of which `left` bytes are owed in the state f left; the code has it in an array
 module _ (t : List ℕ) (f : ℕ → State) (l m : List ℕ) (each : (left : ℕ) → turn t (on (f (suc left)) m) ≡ gives (owing l (suc left)) (on (f left) m)) where
-  each-owed : Sends (turn t) (λ sent left. f left) l (length l) m
+  pub each-owed : Sends (turn t) (λ sent left. f left) l (length l) m
   each-owed sent left h =
       let i : length l - suc left ≡ sent = omega arith in
       each left ∙ ap (λ (k : ℕ). gives (getD l k 0) (on (f left) m)) i
 
   pub owed-leaf : {bytes room room′ : List ℕ} {left n : ℕ} {s x : State} → bytes ≡ l → 0 < left → left ≤ length l → s ≡ f left
-      → Gives bytes left room n room′ → x ≡ f (left - n) → Emits (turn t) (on s m) room n (on x m) room′
+      → Given bytes left room n room′ → x ≡ f (left - n) → Emits (turn t) (on s m) room n (on x m) room′
   owed-leaf {room = room} {left = left} {n = n} q some fits p g e =
       send-leaf (λ sent left. f left) l (length l) each-owed {off = length l - left} p (g .least) some (omega arith) (omega arith) e
       (g .written ∙ ap (λ (b : List ℕ). paste room 0 (drop (length b - left) b) n) q)

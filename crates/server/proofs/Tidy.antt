@@ -1,5 +1,6 @@
 -- A server is the one struct of its state, where the bytes that are not in use are 0.
 --   stands-for   a state's struct stands for the state
+--   coded        the struct of a state, by its phase and the bytes in use
 --   copied       the bytes in use, copied over zeros, are that struct
 --   used-fits    a state within its ranges uses no more than the array has
 --   in-range     a state's struct is within its ranges where the state is
@@ -13,16 +14,17 @@ use lib.Seq.{length-take-le, paste, take-append-seam, drop-append-seam}
 use Rattle.machine.proofs.Lists.{drop-replicate}
 use Rattle.wire.specs.declared.table.Export.{Export}
 use Rattle.wire.proofs.Tests.{both-right}
+use Rattle.machine.specs.Parts.{blank}
 use Rattle.server.specs.Session.{Handshake, Greeting, ClientFlags, OptionHead, Naming, Passing, Listing, Declining, Aborting, Exporting}
 use Rattle.server.specs.Session.{Transmission, Header, Storing, Dropping, Replying, Sending, State, Shaking, Serving, Over}
 use Rattle.server.specs.View.{handshakeOf, transmissionOf, viewOf, view, code}
-use Rattle.server.specs.Ranges.{rangedShaking, rangedServing, ranged, usedShaking, usedServing, used, blank, inRange}
+use Rattle.server.specs.Ranges.{rangedShaking, rangedServing, ranged, usedShaking, usedServing, used, inRange}
 use Rattle.server.specs.declared.state.Handshake as hs
 use Rattle.server.specs.declared.state.Transmission as tr
 use Rattle.server.specs.declared.state.Phase as ph
 use Rattle.server.specs.declared.state.Server.{Server}
 use Rattle.server.proofs.Bounds.{head-below}
-use Rattle.server.proofs.Zeros.{blank-zeros}
+use Rattle.machine.proofs.Zeros.{blank-zeros}
 use lib.Dec.{ltb}
 
 -- ---- the struct of a phase's state
@@ -47,7 +49,7 @@ module _ (h : List ℕ) (long : length h ≡ 28) where
   coded-serving e (tr.Transmission.Replying error handle left off len) q = refl
   coded-serving e (tr.Transmission.Sending off left) q = refl
 
-  coded : (p : ph.Phase) → used p ≤ 28 → code (viewOf h p) ≡ record { phase = p; head = take (used p) h ++ replicate (28 - used p) 0 }
+  pub coded : (p : ph.Phase) → used p ≤ 28 → code (viewOf h p) ≡ record { phase = p; head = take (used p) h ++ replicate (28 - used p) 0 }
   coded (ph.Phase.Shaking p) q = coded-shaking p q
   coded (ph.Phase.Serving e p) q = coded-serving e p q
   coded (ph.Phase.Over n) q = refl

@@ -4,3 +4,5 @@ pub mod View
 pub mod Ranges
 pub mod Pieces
 pub mod Contract
+pub mod History
+pub mod Exchanges

@@ -1,23 +1,12 @@
 -- What the functions that move runs of bytes ensure.
---   Gathers, Gives   bytes into the header, and bytes of an array into the room
---   Keeps, Shows     payload into the window, and bytes of the window into the room
+--   Keeps, Shows   payload into the window, and bytes of the window into the room
 use Prim.Native.Nat.{ℕ, min, _+_, _-_}
 use mathlib.Core.Path.{_≡_}
-use mathlib.Core.List.{List, _++_}
-use lib.ListN.{length, take, drop}
+use mathlib.Core.List.{List}
+use lib.ListN.{length, drop}
 use lib.Seq.{paste}
 use Rattle.wire.specs.declared.table.Export.{Export}
 use Rattle.server.specs.Session.{State, storing, sending}
-
--- a header of which `have` bytes were there, with the bytes that came next, until there are `to`
-pub record Gathers (head : List ℕ) (have to : ℕ) (input head′ : List ℕ) (taken : ℕ) : Type 0 where
-  pub least : taken ≡ min (to - have) (length input)
-  pub bytes : take (have + taken) head′ ≡ take have head ++ take taken input
-
--- those of the last `left` bytes that the room has space for
-pub record Gives (bytes : List ℕ) (left : ℕ) (room : List ℕ) (n : ℕ) (room′ : List ℕ) : Type 0 where
-  pub least : n ≡ min left (length room)
-  pub written : room′ ≡ paste room 0 (drop (length bytes - left) bytes) n
 
 -- payload, as much as there is, into the window
 pub record Keeps (e : Export) (handle off left : ℕ) (input window : List ℕ) (taken : ℕ) (x : State) (window′ : List ℕ) : Type 0 where

@@ -6,10 +6,11 @@
 use Prim.Native.Nat.{ℕ, _+_}
 use mathlib.Core.Path.{_≡_}
 use mathlib.Core.Bool.{Bool, true, not}
-use mathlib.Core.List.{List, [], _∷_}
+use mathlib.Core.List.{List}
 use lib.Dec.{eqb, ltb, leb}
 use lib.ListN.{length, drop}
 use Rattle.machine.specs.Choice.{pick, both, either, between}
+use Rattle.machine.specs.Parts.{blank}
 use Rattle.wire.specs.Constants.{NBD-OPT-EXPORT-NAME, NBD-OPT-INFO, NBD-OPT-GO, NBD-OPT-STRUCTURED-REPLY, NBD-OPT-EXTENDED-HEADERS, NBD-EPERM, NBD-EINVAL, NBD-ENOSPC, NBD-ENOSYS}
 use Rattle.wire.specs.Table.{fault, first, readOnly}
 use Rattle.wire.specs.declared.table.Export.{Export}
@@ -86,10 +87,6 @@ abbrev pub used : ph.Phase → ℕ
 used (ph.Phase.Shaking p) = usedShaking p
 used (ph.Phase.Serving e p) = usedServing p
 used (ph.Phase.Over n) = 0
-
-abbrev pub blank : List ℕ → Bool
-blank [] = true
-blank (b ∷ l) = both (eqb b 0) (blank l)
 
 abbrev pub tidy : Server → Bool
 tidy s = blank (drop (used (s .phase)) (s .head))

@@ -8,7 +8,7 @@
 --
 --   State         where a session stands
 --   turn t        one byte, with the table t and the image lent
-use Prim.Native.Nat.{ℕ, zero, suc, _+_, _-_}
+use Prim.Native.Nat.{ℕ, zero, suc, _+_}
 use mathlib.Core.Bool.{Bool, true, false}
 use mathlib.Core.List.{List, [], _∷_, _++_}
 use mathlib.Core.Option.{Option, none, some}
@@ -17,6 +17,7 @@ use lib.ListN.{length, getD, set, take, drop}
 use Rattle.machine.specs.Choice.{pick}
 use Rattle.machine.specs.Machine.{On, on, Turn, gives, takes, rests}
 use Rattle.machine.specs.Bulk.{less}
+use Rattle.machine.specs.Parts.{owing}
 use Rattle.wire.specs.Fields.{be, number, field, sameBytes}
 use Rattle.wire.specs.Constants.{IHAVEOPT, rustnbd, NBD-REQUEST-MAGIC, NBD-OPT-EXPORT-NAME, NBD-OPT-ABORT, NBD-OPT-LIST, NBD-OPT-STARTTLS, NBD-OPT-INFO, NBD-OPT-GO, NBD-OPT-STRUCTURED-REPLY, NBD-OPT-EXTENDED-HEADERS, NBD-REP-ACK, NBD-REP-SERVER, NBD-REP-ERR-UNSUP}
 use Rattle.wire.specs.Layouts.{greeting, optionReply, exportReply, simpleReply}
@@ -55,10 +56,6 @@ pub data State : Type 0 where
   Shaking : Handshake → State
   Serving : Export → Transmission → State
   Over : ℕ → State  -- the session has ended, with this number
-
--- the byte of l that comes next where so many are left
-abbrev pub owing : List ℕ → ℕ → ℕ
-owing l left = getD l (length l - left) 0
 
 -- the bytes of the image in the export's window
 abbrev pub window : Export → List ℕ → List ℕ

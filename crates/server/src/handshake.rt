@@ -1,5 +1,4 @@
 // The handshake: the greeting, the client's flags, and options until one of them chooses an export.
-use crate::pieces;
 use crate::ranges;
 use crate::state::Gave;
 use crate::state::Handshake;
@@ -8,6 +7,7 @@ use crate::state::Server;
 use crate::state::Took;
 use crate::state::Transmission;
 use machine::copy;
+use machine::parts;
 use wire::consts;
 use wire::fields;
 use wire::lookup;
@@ -317,12 +317,12 @@ pub fn take_flags(head: [u8; 28], have: usize, input: &[u8]) -> Took
     requires { ⌜ (have < 4) × (0 < length (now input)) ⌝ }
     ensures { λ r. ⌜ ((t m : List ℕ) → Absorbs (turn t) (on (Shaking (ClientFlags (take have head))) m) (now (input .entry)) (r .taken) (on (view (r .state)) m)) ⌝ }
 {
-    let g = pieces::gather(head, have, 4, input);
-    let bytes = g.head;
-    let phase = flagged(bytes, have + g.taken);
+    let mut bytes = head;
+    let n = parts::gather(&mut bytes, have, 4, input);
+    let phase = flagged(bytes, have + n);
     Took {
         state: Server { phase, head: bytes },
-        taken: g.taken,
+        taken: n,
     }
 }
 
@@ -330,12 +330,12 @@ pub fn take_option(head: [u8; 28], zeroes: bool, have: usize, table: &[u8], inpu
     requires { ⌜ (have < 16) × (0 < length (now input)) ⌝ }
     ensures { λ r. ⌜ ((m : List ℕ) → Absorbs (turn (now (table .entry))) (on (Shaking (OptionHead zeroes (take have head))) m) (now (input .entry)) (r .taken) (on (view (r .state)) m)) ⌝ }
 {
-    let g = pieces::gather(head, have, until(have), input);
-    let bytes = g.head;
-    let phase = opted(zeroes, table, bytes, have + g.taken);
+    let mut bytes = head;
+    let n = parts::gather(&mut bytes, have, until(have), input);
+    let phase = opted(zeroes, table, bytes, have + n);
     Took {
         state: Server { phase, head: bytes },
-        taken: g.taken,
+        taken: n,
     }
 }
 
@@ -389,7 +389,7 @@ pub fn greet(head: [u8; 28], left: usize, room: &mut [u8]) -> Gave
     ensures { λ r. ⌜ ((t m : List ℕ) → Emits (turn t) (on (Shaking (Greeting left)) m) (now (room .entry)) (r .given) (on (view (r .state)) m) (now (room .exit))) ⌝ }
 {
     let bytes = greeting();
-    let n = pieces::give(&bytes, left, room);
+    let n = parts::give(&bytes, left, room);
     let phase = greeted(left - n);
     Gave {
         state: Server { phase, head },
@@ -402,7 +402,7 @@ pub fn list(head: [u8; 28], zeroes: bool, left: usize, room: &mut [u8]) -> Gave
     ensures { λ r. ⌜ ((t m : List ℕ) → Emits (turn t) (on (Shaking (Listing zeroes left)) m) (now (room .entry)) (r .given) (on (view (r .state)) m) (now (room .exit))) ⌝ }
 {
     let bytes = list_replies();
-    let n = pieces::give(&bytes, left, room);
+    let n = parts::give(&bytes, left, room);
     let phase = listing(zeroes, left - n);
     Gave {
         state: Server { phase, head },
@@ -415,7 +415,7 @@ pub fn decline(head: [u8; 28], zeroes: bool, option: u32, left: usize, room: &mu
     ensures { λ r. ⌜ ((t m : List ℕ) → Emits (turn t) (on (Shaking (Declining zeroes option left)) m) (now (room .entry)) (r .given) (on (view (r .state)) m) (now (room .exit))) ⌝ }
 {
     let bytes = option_reply(option, consts::NBD_REP_ERR_UNSUP, 0);
-    let n = pieces::give(&bytes, left, room);
+    let n = parts::give(&bytes, left, room);
     let phase = declining(zeroes, option, left - n);
     Gave {
         state: Server { phase, head },
@@ -428,7 +428,7 @@ pub fn abort(head: [u8; 28], left: usize, room: &mut [u8]) -> Gave
     ensures { λ r. ⌜ ((t m : List ℕ) → Emits (turn t) (on (Shaking (Aborting left)) m) (now (room .entry)) (r .given) (on (view (r .state)) m) (now (room .exit))) ⌝ }
 {
     let bytes = option_reply(consts::NBD_OPT_ABORT, consts::NBD_REP_ACK, 0);
-    let n = pieces::give(&bytes, left, room);
+    let n = parts::give(&bytes, left, room);
     let phase = aborting(left - n);
     Gave {
         state: Server { phase, head },
@@ -442,7 +442,7 @@ pub fn export(head: [u8; 28], zeroes: bool, export: Export, left: usize, room: &
 {
     let bytes = export_reply(export);
     let all = ranges::reply_length(zeroes);
-    let n = pieces::give(&bytes[..all], left, room);
+    let n = parts::give(&bytes[..all], left, room);
     let phase = exporting(zeroes, export, left - n);
     Gave {
         state: Server { phase, head },

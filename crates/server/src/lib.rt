@@ -1,7 +1,6 @@
 // An NBD server without sockets: the host keeps the wire, lends slices, and hands a state in and gets it back.
 pub mod handshake;
 pub mod oldstyle;
-pub mod pieces;
 pub mod ranges;
 pub mod request;
 pub mod state;

@@ -4,13 +4,13 @@ use crate::state::Handshake;
 use crate::state::Phase;
 use crate::state::Server;
 use crate::state::Transmission;
+use machine::parts;
 use wire::consts;
 use wire::table::Export;
 ghost use mathlib.Core.Path.{_≡_};
 ghost use mathlib.Core.Bool.{not};
 ghost use Prim.Native.Nat.{_+_};
 ghost use lib.Dec.{eqb, ltb, leb};
-ghost use lib.ListN.{drop};
 ghost use Rattle.machine.specs.Choice.{pick, both, either, between};
 ghost use Rattle.wire.specs.Constants.{NBD-OPT-EXPORT-NAME, NBD-EPERM, NBD-ENOSPC};
 ghost use Rattle.wire.specs.Table.{readOnly};
@@ -27,7 +27,6 @@ ghost use Rattle.server.specs.Ranges.{
   usedShaking,
   usedServing,
   used,
-  blank,
   inRange,
 };
 
@@ -282,20 +281,6 @@ pub fn used(p: Phase) -> usize
     }
 }
 
-// Whether the bytes of l from `from` on are 0.
-fn blank(l: &[u8], from: usize) -> bool
-    ensures { λ r. ⌜ r ≡ blank (drop from (now (l .entry))) ⌝ }
-{
-    let mut i = from;
-    while i < l.len() {
-        if l[i] != 0 {
-            return false;
-        }
-        i += 1;
-    }
-    true
-}
-
 // Whether a server is within its ranges.
 pub fn in_range(s: Server) -> bool
     ensures { λ r. ⌜ r ≡ inRange s ⌝ }
@@ -303,5 +288,5 @@ pub fn in_range(s: Server) -> bool
     let head = s.head;
     let p = s.phase;
     let k = used(p);
-    both(blank(&head, k), ranged(s))
+    both(parts::blank(&head, k), ranged(s))
 }

@@ -1,5 +1,4 @@
 // The transmission: requests, one after the other, on the window of the export that was chosen.
-use crate::pieces;
 use crate::request;
 use crate::request::Answer;
 use crate::request::Request;
@@ -9,6 +8,7 @@ use crate::state::Server;
 use crate::state::Took;
 use crate::state::Transmission;
 use machine::copy;
+use machine::parts;
 use wire::consts;
 use wire::fields;
 use wire::table::Export;
@@ -159,12 +159,12 @@ pub fn take_header(head: [u8; 28], e: Export, have: usize, input: &[u8]) -> Took
     requires { ⌜ (have < 28) × (0 < length (now input)) ⌝ }
     ensures { λ r. ⌜ ((t m : List ℕ) → Absorbs (turn t) (on (Serving e (Header (take have head))) m) (now (input .entry)) (r .taken) (on (view (r .state)) m)) ⌝ }
 {
-    let g = pieces::gather(head, have, until(have), input);
-    let bytes = g.head;
-    let phase = requested(e, bytes, have + g.taken);
+    let mut bytes = head;
+    let n = parts::gather(&mut bytes, have, until(have), input);
+    let phase = requested(e, bytes, have + n);
     Took {
         state: Server { phase, head: bytes },
-        taken: g.taken,
+        taken: n,
     }
 }
 
@@ -224,7 +224,7 @@ pub fn reply(
     ensures { λ r. ⌜ ((t m : List ℕ) → Emits (turn t) (on (Serving e (Replying error handle left off len)) m) (now (room .entry)) (r .given) (on (view (r .state)) m) (now (room .exit))) ⌝ }
 {
     let bytes = simple_reply(error, handle);
-    let n = pieces::give(&bytes, left, room);
+    let n = parts::give(&bytes, left, room);
     let phase = replying(e, error, handle, left - n, off, len);
     Gave {
         state: Server { phase, head },

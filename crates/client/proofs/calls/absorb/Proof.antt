@@ -15,8 +15,14 @@ sixteen c = search needs
 enum-told : tie.Need-enum-told
 enum-told c = search needs
 
+takes-none-requires : tie.Need-takes-none-requires
+takes-none-requires c κs = search needs
+
 enum-told-2 : tie.Need-enum-told-2
 enum-told-2 c = search needs
+
+takes-none-requires-2 : tie.Need-takes-none-requires-2
+takes-none-requires-2 c κs = search needs
 
 enum-known-p : tie.Need-enum-known-p
 enum-known-p c = search needs
@@ -31,10 +37,10 @@ fill-requires : tie.Need-fill-requires
 fill-requires c κs = let s = rw (c .before .before .p2 .given .1) at (c .before .before .before .before .before .before .pre) in (s .2, filled (c .before .before .before .before .before .before .args .d) (c .before .before .before .before .before .before .args .c) (s .1) (s .2), s .3)
 
 returns : tie.Need-returns
-returns c = absorbs-idle (rw (c .enum-told .given .1))
+returns c = rw (c .takes-none .ensures) (absorbs-idle (rw (c .before .enum-told .given .1)))
 
 returns-2 : tie.Need-returns-2
-returns-2 c = absorbs-idle (rw (c .enum-told2 .given .1))
+returns-2 c = rw (c .takes-none2 .ensures) (absorbs-idle (rw (c .before .enum-told2 .given .1)))
 
 returns-3 : tie.Need-returns-3
 returns-3 c = rw (c .before .before .p .given .1) (c .hear .ensures _)
@@ -50,7 +56,9 @@ absorb-spec =
     tie.close
     (tie.spec
     enum-told
+    takes-none-requires
     enum-told-2
+    takes-none-requires-2
     enum-known-p
     hear-requires
     enum-known-p-2

@@ -20,8 +20,14 @@ pay-requires c κs = let s = rw (c .before .before .p2 .given .1) at (c .before 
 enum-told : tie.Need-enum-told
 enum-told c = search needs
 
+gives-none-requires : tie.Need-gives-none-requires
+gives-none-requires c κs = search needs
+
 enum-told-2 : tie.Need-enum-told-2
 enum-told-2 c = search needs
+
+gives-none-requires-2 : tie.Need-gives-none-requires-2
+gives-none-requires-2 c κs = search needs
 
 same-length : tie.Need-same-length
 same-length c = search needs
@@ -36,10 +42,10 @@ returns-2 : tie.Need-returns-2
 returns-2 c = rw (c .before .before .before .before .before .p2 .given .1) (c .before .before .pay .ensures)
 
 returns-3 : tie.Need-returns-3
-returns-3 c = emits-idle (rw (c .enum-told .given .1))
+returns-3 c = rw (c .gives-none .ensures) (emits-idle (rw (c .before .enum-told .given .1)))
 
 returns-4 : tie.Need-returns-4
-returns-4 c = emits-idle (rw (c .enum-told2 .given .1))
+returns-4 c = rw (c .gives-none2 .ensures) (emits-idle (rw (c .before .enum-told2 .given .1)))
 
 pub emit-spec : {M : Type 1} → statement M
 emit-spec =
@@ -50,7 +56,9 @@ emit-spec =
     enum-known-p-2
     pay-requires
     enum-told
+    gives-none-requires
     enum-told-2
+    gives-none-requires-2
     same-length
     returns
     same-length-2

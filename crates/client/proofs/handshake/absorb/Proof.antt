@@ -32,8 +32,14 @@ skip-flags-requires c κs = let s = rw (c .before .p3 .given .1) at (c .before .
 enum-told : tie.Need-enum-told
 enum-told c = search needs
 
+takes-none-requires : tie.Need-takes-none-requires
+takes-none-requires c κs = search needs
+
 enum-told-2 : tie.Need-enum-told-2
 enum-told-2 c = search needs
+
+takes-none-requires-2 : tie.Need-takes-none-requires-2
+takes-none-requires-2 c κs = search needs
 
 enum-known-p-4 : tie.Need-enum-known-p-4
 enum-known-p-4 c = search needs
@@ -57,10 +63,10 @@ returns-3 : tie.Need-returns-3
 returns-3 c = λ m. rw (c .before .before .p3 .given .1) (c .skip-flags .ensures m _ refl)
 
 returns-4 : tie.Need-returns-4
-returns-4 c = λ m. absorbs-idle (rw (c .enum-told .given .1))
+returns-4 c = λ m. rw (c .takes-none .ensures) (absorbs-idle (rw (c .before .enum-told .given .1)))
 
 returns-5 : tie.Need-returns-5
-returns-5 c = λ m. absorbs-idle (rw (c .enum-told2 .given .1))
+returns-5 c = λ m. rw (c .takes-none2 .ensures) (absorbs-idle (rw (c .before .enum-told2 .given .1)))
 
 returns-6 : tie.Need-returns-6
 returns-6 c = λ m. rw (c .before .before .p4 .given .1) (c .take-terms .ensures m)
@@ -79,7 +85,9 @@ absorb-spec =
     enum-known-p-3
     skip-flags-requires
     enum-told
+    takes-none-requires
     enum-told-2
+    takes-none-requires-2
     enum-known-p-4
     take-terms-requires
     enum-known-p-5

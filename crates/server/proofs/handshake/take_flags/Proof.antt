@@ -9,6 +9,9 @@ use Rattle.server.proofs.handshake.take_flags.Tie as tie
 long : (c : tie.Start) → length (c .args .head) ≡ 28
 long c = search needs
 
+slice-aggregate-gather : tie.Need-slice-aggregate-gather
+slice-aggregate-gather c = search needs
+
 gather-requires : tie.Need-gather-requires
 gather-requires c κs = search needs
 
@@ -19,7 +22,9 @@ flagged-requires : tie.Need-flagged-requires
 flagged-requires c κs = search needs
 
 returns : tie.Need-returns
-returns c = λ t m. flags-leaf t (long (c .before .before .before .before .before)) (c .before .before .before .before .before .pre .0) (c .before .before .before .before .before .pre .1) (c .before .before .before .gather .ensures) (c .flagged .ensures)
+returns c = λ t m. flags-leaf t (long (c .before .before .before .before .before)) (c .before .before .before .before .before .pre .0) (c .before .before .before .before .before .pre .1) (c .before .before .gather .ensures) (c .flagged .ensures)
 
 pub take-flags-spec : {M : Type 1} → statement M
-take-flags-spec = tie.close (tie.spec gather-requires add-flagged flagged-requires returns)
+take-flags-spec =
+    tie.close
+    (tie.spec slice-aggregate-gather gather-requires add-flagged flagged-requires returns)

@@ -10,12 +10,16 @@ use Rattle.server.proofs.handshake.take_option.Tie as tie
 long : (c : tie.Start) → length (c .args .head) ≡ 28
 long c = search needs
 
+slice-aggregate-gather : tie.Need-slice-aggregate-gather
+slice-aggregate-gather c = search needs
+
 until-requires : tie.Need-until-requires
 until-requires c κs = search needs
 
 gather-requires : tie.Need-gather-requires
 gather-requires c κs =
-    let u = until-option (c .before .before .before .args .have) (c .before .before .before .pre .0) in
+    let u = until-option (c .before .before .before .before .args .have) (c .before .before .before .before .pre .0) in
+    let l = long (c .before .before .before .before) in
     omega (arith, c .until .ensures)
 
 add-opted : tie.Need-add-opted
@@ -24,11 +28,18 @@ add-opted c = search needs
 opted-requires : tie.Need-opted-requires
 opted-requires c κs =
     let u = until-option (c .before .before .before .before .before .before .args .have) (c .before .before .before .before .before .before .pre .0) in
-    omega (arith, c .before .before .before .until .ensures, c .before .before .gather .ensures .least)
+    omega (arith, c .before .before .until .ensures, c .before .gather .ensures .least)
 
 returns : tie.Need-returns
-returns c = λ m. option-leaf _ _ (long (c .before .before .before .before .before .before .before)) (c .before .before .before .before .before .before .before .pre .0) (c .before .before .before .before .before .before .before .pre .1) (rw (← c .before .before .before .before .until .ensures) (c .before .before .before .gather .ensures)) (c .opted .ensures)
+returns c = λ m. option-leaf _ _ (long (c .before .before .before .before .before .before .before)) (c .before .before .before .before .before .before .before .pre .0) (c .before .before .before .before .before .before .before .pre .1) (rw (← c .before .before .before .until .ensures) (c .before .before .gather .ensures)) (c .opted .ensures)
 
 pub take-option-spec : {M : Type 1} → statement M
 take-option-spec =
-    tie.close (tie.spec until-requires gather-requires add-opted opted-requires returns)
+    tie.close
+    (tie.spec
+    slice-aggregate-gather
+    until-requires
+    gather-requires
+    add-opted
+    opted-requires
+    returns)

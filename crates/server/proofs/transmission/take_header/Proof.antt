@@ -10,12 +10,16 @@ use Rattle.server.proofs.transmission.take_header.Tie as tie
 long : (c : tie.Start) → length (c .args .head) ≡ 28
 long c = search needs
 
+slice-aggregate-gather : tie.Need-slice-aggregate-gather
+slice-aggregate-gather c = search needs
+
 until-requires : tie.Need-until-requires
 until-requires c κs = search needs
 
 gather-requires : tie.Need-gather-requires
 gather-requires c κs =
-    let u = until-request (c .before .before .args .have) (c .before .before .pre .0) in
+    let u = until-request (c .before .before .before .args .have) (c .before .before .before .pre .0) in
+    let l = long (c .before .before .before) in
     omega (arith, c .until .ensures)
 
 add-requested : tie.Need-add-requested
@@ -24,11 +28,18 @@ add-requested c = search needs
 requested-requires : tie.Need-requested-requires
 requested-requires c κs =
     let u = until-request (c .before .before .before .before .before .args .have) (c .before .before .before .before .before .pre .0) in
-    omega (arith, c .before .before .before .until .ensures, c .before .before .gather .ensures .least)
+    omega (arith, c .before .before .until .ensures, c .before .gather .ensures .least)
 
 returns : tie.Need-returns
-returns c = λ t m. request-leaf t (c .before .before .before .before .before .before .args .e) (long (c .before .before .before .before .before .before)) (c .before .before .before .before .before .before .pre .0) (c .before .before .before .before .before .before .pre .1) (rw (← c .before .before .before .before .until .ensures) (c .before .before .before .gather .ensures)) (c .requested .ensures)
+returns c = λ t m. request-leaf t (c .before .before .before .before .before .before .args .e) (long (c .before .before .before .before .before .before)) (c .before .before .before .before .before .before .pre .0) (c .before .before .before .before .before .before .pre .1) (rw (← c .before .before .before .until .ensures) (c .before .before .gather .ensures)) (c .requested .ensures)
 
 pub take-header-spec : {M : Type 1} → statement M
 take-header-spec =
-    tie.close (tie.spec until-requires gather-requires add-requested requested-requires returns)
+    tie.close
+    (tie.spec
+    slice-aggregate-gather
+    until-requires
+    gather-requires
+    add-requested
+    requested-requires
+    returns)

@@ -1,0 +1,5 @@
+pub mod Standing
+pub mod Row
+pub mod Draft
+pub mod Mark
+pub mod Names
