@@ -1,0 +1,16 @@
+pub mod Driver
+pub mod Driving
+pub mod Coded
+pub mod Parts
+pub mod Sent
+pub mod Agree
+pub mod Calls
+pub mod Formula
+pub mod Ending
+pub mod Opening
+pub mod Collecting
+pub mod Carrying
+pub mod Hosted
+pub mod Conversation
+pub mod Theorem
+pub mod Cases

@@ -1,0 +1,149 @@
+-- Condition 3. One fresh client, one fresh server, two wires with room for a byte or more, a sound table that holds the name, and any finite list of
+-- reads, writes, seeks, flushes and trims. Whatever the order of the steps, the pieces and the rooms:
+--   plain-disk      once the handshake and all calls are closed, the results and the image are those of the plain disk
+--   outside         and the bytes outside the window are as they were
+--   carried-bytes, carried-formula   and the bytes of these calls have gone up and down, as many as 01's formula says
+--   same-outcome    so two runs end alike, on wires of any capacities
+--   as-soon-as      at every moment the results so far are the plain disk's first results
+--   one-for-each    and each call that is closed has its result
+--   moves, carries  while the handshake or a call is open, some move carries a byte
+--   fair            a host that visits each of the two again and again closes all
+--   bounded         no run carries more than the formula's bytes, each onto a wire and off it
+use Prim.Native.Nat.{ℕ, zero, suc, _+_, _*_, _≤_, _<_}
+use mathlib.Core.Path.{_≡_, refl, sym, ap, _∙_}
+use mathlib.Core.Logic.{_⊎_, inl, inr}
+use mathlib.Core.List.{List, [], _∷_, _++_, append-assoc}
+use native.Mathlib.Omega.{arith}
+use lib.ListN.{length, take, drop, length-append}
+use lib.Seq.{take-append-seam, take-at, drop-at}
+use Rattle.machine.specs.Machine.{On, on}
+use Rattle.machine.specs.Bytes.{Bytes, talk-bytes, total}
+use Rattle.machine.specs.Wires.{Sys, sys, the-client, Who, Move}
+use Rattle.machine.proofs.Talking.{stuck}
+use Rattle.machine.proofs.Outcome.{talk-midway, talk-bounded, talk-goes-on, talk-fair}
+use Rattle.server.specs.Session.{State, turn as serve}
+use Rattle.server.specs.declared.state.Server.{Server}
+use Rattle.client.specs.Session as client
+use Rattle.client.specs.View.{view}
+use Rattle.client.specs.Calls.{device}
+use Rattle.client.specs.Contract.{fresh}
+use Rattle.client.specs.declared.state.Client.{Client}
+use Rattle.joined.specs.Disk.{Disk, Call, Result, after, results, final, placed}
+use Rattle.joined.specs.Carried.{upAll, downAll}
+use Rattle.joined.specs.Said.{saidUp, saidDown}
+use Rattle.joined.specs.Code.{joint, Ready, Runs, Holds, begin, export, disk, opening, ClientCarries, ServerCarries}
+use Rattle.joined.specs.Host.{Rounds, round}
+use Rattle.joined.proofs.Driver.{Driver, over, settle, drive}
+use Rattle.joined.proofs.Coded.{stands}
+use Rattle.joined.proofs.Ending.{talk-over}
+use Rattle.joined.proofs.Opening.{front}
+use Rattle.joined.proofs.Collecting.{by-take, grows, weight, next-weight, never-more}
+use Rattle.joined.proofs.Carrying.{unsettled, carried}
+use Rattle.joined.proofs.Conversation.{length-results, last-round, end, told, talk, length-up, length-down, fit, starts, ended, executed}
+use Rattle.joined.proofs.Hosted.{rounds, is-ready, all-made}
+
+module _ {t img name : List ℕ} {k : ℕ} (holds : Holds t img name k) (ks : List Call) where
+  -- the disk that record k of the table stands for
+  abbrev plain : Disk
+  plain = disk (export t k) img
+
+  -- its results: that of the handshake, and those of the calls
+  abbrev all : List Result
+  all = opening (export t k) name ∷ results plain ks
+
+  -- and the image with its bytes
+  abbrev image : List ℕ
+  image = placed img (export t k .start) (final plain ks .bytes)
+
+  module _ {cu cd : ℕ} (hu : 0 < cu) (hd : 0 < cd) where
+    module _ {b : Bytes} {c : Client} {m : List ℕ} {rs : List Result} {s : Server} {img′ u d : List ℕ} (run : Runs t cu cd b (begin name ks img) (joint c m [] rs s img′ u d)) (closed : Ready c) where
+      at-end : (stands (joint c m [] rs s img′ u d) ≡ sys (over all) (end holds ks) [] []) × (b ≡ talk-bytes (saidUp name plain ks) (saidDown (export t k) plain ks))
+      at-end = talk-over hu hd (talk holds ks) refl refl (by-take all) (executed holds ks run .0) (rw (closed .rests))
+
+      -- Every run that closes the handshake and all calls gives the results of the plain disk, and its bytes in the window; all other bytes
+      -- of the image are as they were.
+      pub plain-disk : (rs ≡ all) × (img′ ≡ image)
+      plain-disk = ended holds ks c m rs s img′ u d closed (at-end .0)
+
+      pub outside : (take (export t k .start) img′ ≡ take (export t k .start) img)
+          × (drop (export t k .start + export t k .size) img′ ≡ drop (export t k .start + export t k .size) img)
+      outside =
+          let r = export t k in
+          let before = take (r .start) img in
+          let bs = final plain ks .bytes in
+          let whole = told holds ks .whole in
+          let l : length (before ++ bs) ≡ r .start + r .size = length-append before bs ∙ omega (arith, front holds, whole) in
+          let i : img′ ≡ before ++ bs ++ drop (r .start + r .size) img = plain-disk .1 ∙ ap (λ (n : ℕ). before ++ bs ++ drop (r .start + n) img) whole in
+          rw i
+          (rw (append-assoc before bs (drop (r .start + r .size) img)) (take-at before (bs ++ drop (r .start + r .size) img) (r .start) (front holds)), drop-at (before ++ bs) (drop (r .start + r .size) img) (r .start + r .size) l)
+
+      pub carried-bytes : (b .client-out ≡ saidUp name plain ks) × (b .server-in ≡ saidUp name plain ks)
+          × (b .server-out ≡ saidDown (export t k) plain ks) × (b .client-in ≡ saidDown (export t k) plain ks)
+      carried-bytes = rw (at-end .1) (refl, refl, refl, refl)
+
+      pub carried-formula : (length (b .client-out) ≡ upAll name plain ks) × (length (b .server-in) ≡ upAll name plain ks)
+          × (length (b .server-out) ≡ downAll plain ks) × (length (b .client-in) ≡ downAll plain ks)
+      carried-formula = rw (at-end .1) (length-up holds ks, length-up holds ks, length-down holds ks, length-down holds ks)
+
+    module _ {b : Bytes} {c : Client} {m : List ℕ} {ls : List Call} {rs : List Result} {s : Server} {img′ u d : List ℕ} (run : Runs t cu cd b (begin name ks img) (joint c m ls rs s img′ u d)) where
+      abbrev here : Sys Driver (On State)
+      here = stands (joint c m ls rs s img′ u d)
+
+      -- As soon as a call is closed its result is the plain disk's.
+      pub as-soon-as : rs ≡ take (length rs) all
+      as-soon-as =
+          let w = talk-midway hu hd (talk holds ks) refl refl (executed holds ks run .0) in
+          let g = grows (on (view c) m) ls rs (w .after .of-client) in
+          sym (ap (take (length rs)) (g .parts) ∙ take-append-seam rs (g .more))
+
+      -- And it has its result: where none is open, each call is still to come, or its result is there; and so is that of the handshake.
+      pub one-for-each : Ready c → length rs + length ls ≡ suc (length ks)
+      one-for-each i =
+          let w = talk-midway hu hd (talk holds ks) refl refl (executed holds ks run .0) in
+          let h : weight (the-client here) ≡ length rs + length ls = ap (λ (x : client.State). weight (settle (on x m) ls rs)) (i .rests) ∙ next-weight ls (i .device) rs in
+          omega (arith, h, never-more (w .before .of-client), never-more (w .after .of-client), length-results ks plain)
+
+      -- No run carries more bytes than the formula has, each onto a wire and off it.
+      pub bounded : total b ≤ 2 * (upAll name plain ks + downAll plain ks)
+      bounded = rw (length-up holds ks, length-down holds ks) at (talk-bounded hu hd (talk holds ks) refl refl (executed holds ks run .0))
+
+      module _ (unclosed : Ready c → ⊥) where
+        pub moves : (w : Who) × (a : Bytes) × (y : Sys Driver (On State)) × Move drive (serve t) cu cd w a here y
+        moves = by (talk-goes-on hu hd (talk holds ks) refl refl (executed holds ks run .0))
+          where
+            by : (here ≡ sys (over all) (end holds ks) [] []) ⊎ ((w : Who) × (a : Bytes) × (y : Sys Driver (On State)) × Move drive (serve t) cu cd w a here y)
+                → (w : Who) × (a : Bytes) × (y : Sys Driver (On State)) × Move drive (serve t) cu cd w a here y
+            by (inl q) = absurd (let f = sym (unsettled m ls rs (executed holds ks run .1) unclosed) ∙ ap the-client q in let z : _≡_ {A = ℕ} 0 1 = cc f in omega arith)
+            by (inr q) = q
+
+        -- Every step of the client, or else every step of the server, on all that is on its wire in and with some room where its wire out has
+        -- space, carries a byte.
+        pub carries : ClientCarries cu c m u d ⊎ ServerCarries t cd s img′ u d
+        carries = carried m ls rs (executed holds ks run .1) unclosed (moves .3)
+
+    -- A host that visits each of the two again and again closes all, after one round more than the formula's bytes, each onto a wire and off it.
+    pub fair : {n : ℕ} {c : Client} {m : List ℕ} {ls : List Call} {rs : List Result} {s : Server} {img′ u d : List ℕ}
+        → 2 * (upAll name plain ks + downAll plain ks) < n → Rounds t cu cd n (begin name ks img) (joint c m ls rs s img′ u d)
+        → Ready c × (ls ≡ []) × (rs ≡ all) × (img′ ≡ image)
+    fair {n = zero} h r = absurd (omega arith)
+    fair {n = suc n} {c = c} {m = m} {ls = ls} {rs = rs} {s = s} {img′ = img′} {u = u} {d = d} h r =
+        let bound : 2 * (length (saidUp name plain ks) + length (saidDown (export t k) plain ks)) ≤ n = rw (length-up holds ks, length-down holds ks) (omega arith) in
+        let w = last-round r in
+        let i = rounds (w .1) (fit holds ks) in
+        let j = rounds r (fit holds ks) in
+        let at-last = talk-fair hu hd (talk holds ks) refl refl bound (rw (starts holds ks) at (i .0)) in
+        let at-end = talk-fair hu hd (talk holds ks) refl refl (omega arith) (rw (starts holds ks) at (j .0)) in
+        let made : ls ≡ [] = all-made all (w .4) (i .1) (rw at-last (stuck refl refl)) (ap the-client at-last) in
+        let ready = is-ready ls rs all (j .1) (ap the-client at-end) in
+        let o = ended holds ks c m rs s img′ u d ready (rw made at at-end) in
+        (ready, made, o .0, o .1)
+
+  -- Wires, cuttings and orders of moves do not choose the outcome.
+  pub same-outcome : {cu cd ku kd : ℕ} → 0 < cu → 0 < cd → 0 < ku → 0 < kd
+      → {b b′ : Bytes} {c c′ : Client} {m m′ : List ℕ} {rs rs′ : List Result} {s s′ : Server} {i j u u′ d d′ : List ℕ}
+      → Runs t cu cd b (begin name ks img) (joint c m [] rs s i u d) → Ready c
+      → Runs t ku kd b′ (begin name ks img) (joint c′ m′ [] rs′ s′ j u′ d′) → Ready c′ → (rs ≡ rs′) × (i ≡ j)
+  same-outcome hu hd gu gd p x q y =
+      let a = plain-disk hu hd p x in
+      let b = plain-disk gu gd q y in
+      (a .0 ∙ sym (b .0), a .1 ∙ sym (b .1))

@@ -1,0 +1,6 @@
+pub mod Disk
+pub mod Carried
+pub mod Said
+pub mod Code
+pub mod Host
+pub mod Cases
