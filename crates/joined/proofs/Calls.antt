@@ -23,9 +23,9 @@ use Rattle.wire.specs.Layouts.{simpleReply, request as request′}
 use Rattle.wire.specs.declared.table.Export.{Export}
 use Rattle.server.specs.Request.{owed}
 use Rattle.server.specs.Session as server
+use Rattle.server.specs.Exchanges.{Fits}
 use Rattle.server.proofs.Session.{each-dropped}
 use Rattle.server.proofs.Window.{stored}
-use Rattle.server.specs.Exchanges.{Fits}
 use Rattle.server.proofs.Requests.{request-judged, whole-read, whole-write, whole-write-read-only, whole-flush, whole-trim}
 use Rattle.client.specs.Calls.{payload, wanted, asks, valueOf, moved, positioned}
 use Rattle.client.specs.Session.{Asking, Calling}
@@ -35,8 +35,8 @@ use Rattle.client.specs.declared.state.Call.the-variants.{Read, Write, Flush, T
 use Rattle.client.specs.declared.state.Outcome.the-variants.{Succeeded, Failed}
 use Rattle.client.proofs.Alone.{call-alone, call-fails}
 use Rattle.joined.specs.Disk as plain
-use Rattle.joined.specs.Disk.{Disk, Call, read, write, seek, flush, trim, Result, readResult, writeResult, trimResult, seekResult, result, readAfter, writeAfter, seekAfter, after, results, final}
-use Rattle.joined.specs.Said.{ifSent, question, answer, questions, answers}
+use Rattle.joined.specs.Disk.{Disk, here, Call, read, write, seek, flush, trim, Result, readResult, writeResult, trimResult, seekResult, result, readAfter, writeAfter, seekAfter, after, results, final}
+use Rattle.joined.specs.Said.{ifSent, asking, question, answer, questions, answers}
 use Rattle.joined.specs.Code.{resultOf}
 use Rattle.joined.proofs.Driver.{Driver, busy, over, granted, soughtAt, going, next, drive}
 use Rattle.joined.proofs.Driving.{follows}
@@ -85,13 +85,17 @@ module _ (t : List ℕ) (e : Export) (front behind : List ℕ) (starts : length 
     abbrev img : List ℕ
     img = front ++ k .bytes ++ behind
 
+    -- the driver with a call that goes out
+    abbrev sends : request.Call → List ℕ → Driver
+    sends c buf = busy (Calling d c (Asking 28)) buf ks rs
+
     inside : e .start + e .size ≤ length img
     inside = omega (arith, image-length front behind (k .bytes), a .whole)
 
     well : (c : request.Call) (buf data′ : List ℕ) {y : On server.State} (k′ : Disk) → payload c ≤ length buf → length data′ ≡ wanted c
         → Moves (server.turn t) (at k) (asks d c ++ take (payload c) buf) [] y
         → Moves (server.turn t) (at k) (asks d c ++ take (payload c) buf) (simpleReply 0 0 ++ data′) (at k′) → Agrees e (moved d c) k′
-        → Spoken (busy (Calling d c (Asking 28)) buf ks rs) k ks (rs ++ resultOf (Succeeded (valueOf c)) (sets buf 0 data′) ∷ []) k′ (asks d c ++ take (payload c) buf) (simpleReply 0 0 ++ data′)
+        → Spoken (sends c buf) k ks (rs ++ resultOf (Succeeded (valueOf c)) (sets buf 0 data′) ∷ []) k′ (asks d c ++ take (payload c) buf) (simpleReply 0 0 ++ data′)
     well c buf data′ k′ fits l p q b = record {
       device = moved d c;
       talk = talk-whole (follows ks rs (asks-sent d c buf fits)) (follows ks rs (call-alone d c buf fits data′ l)) p q;
@@ -101,7 +105,7 @@ module _ (t : List ℕ) (e : Export) (front behind : List ℕ) (starts : length 
     ill : (c : request.Call) (buf : List ℕ) {y : On server.State} (error : ℕ) → payload c ≤ length buf → error < 2 ^ 32 → (error ≡ 0 → ⊥)
         → Moves (server.turn t) (at k) (asks d c ++ take (payload c) buf) [] y
         → Moves (server.turn t) (at k) (asks d c ++ take (payload c) buf) (simpleReply error 0) (at k)
-        → Spoken (busy (Calling d c (Asking 28)) buf ks rs) k ks (rs ++ resultOf (Failed error) buf ∷ []) k (asks d c ++ take (payload c) buf) (simpleReply error 0)
+        → Spoken (sends c buf) k ks (rs ++ resultOf (Failed error) buf ∷ []) k (asks d c ++ take (payload c) buf) (simpleReply error 0)
     ill c buf error fits h ne p q = record {
       device = d;
       talk = talk-whole (follows ks rs (asks-sent d c buf fits)) (follows ks rs (call-fails d c buf fits error h ne)) p q;
@@ -109,7 +113,7 @@ module _ (t : List ℕ) (e : Export) (front behind : List ℕ) (starts : length 
     }
 
     -- the request, with the disk's position
-    at-position : (type n : ℕ) → request′ 0 type 0 (d .position) n ≡ request′ 0 type 0 (k .position) n
+    at-position : (type n : ℕ) → request′ 0 type 0 (d .position) n ≡ asking type k n
     at-position type n = ap (λ (p : ℕ). request′ 0 type 0 p n) (a .same-position)
 
     fields : (type n : ℕ) → type < 2 ^ 16 → n < 2 ^ 32 → 0 < n → k .position + n ≤ length (k .bytes) → Fits type 0 (d .position) n
@@ -117,17 +121,17 @@ module _ (t : List ℕ) (e : Export) (front behind : List ℕ) (starts : length 
 
     -- ---- each call
     read-out : (buf : List ℕ) (n : ℕ) → n ≤ length buf → n < 2 ^ 32 → 0 < n → k .position + n ≤ length (k .bytes)
-        → Spoken (busy (Calling d (Read n (length buf)) (Asking 28)) buf ks rs) k ks (rs ++ readResult k buf (some n) ∷ []) (readAfter k (some n)) (request′ 0 NBD-CMD-READ 0 (k .position) n) (simpleReply 0 0 ++ take n (drop (k .position) (k .bytes)))
+        → Spoken (sends (Read n (length buf)) buf) k ks (rs ++ readResult k buf (some n) ∷ []) (readAfter k (some n)) (asking NBD-CMD-READ k n) (simpleReply 0 0 ++ here k n)
     read-out buf n below h any g =
         let c = Read n (length buf) in
         let data′ = take n (drop (d .position) (k .bytes)) in
         let l : length data′ ≡ n = length-take-le n (drop (d .position) (k .bytes)) (omega (arith, length-drop (d .position) (k .bytes), a .same-position)) in
         let p = request-judged t img e 0 (fields NBD-CMD-READ n (omega arith) h any g) in
         let q = whole-read t img e 0 0 (d .position) (omega arith) (omega (arith, a .same-position, a .whole)) n h any (omega (arith, a .same-position, a .whole)) inside in
-        let w : sets buf 0 data′ ≡ take n (drop (k .position) (k .bytes)) ++ drop n buf =
+        let w : sets buf 0 data′ ≡ here k n ++ drop n buf =
         sets-eq data′ buf 0 (omega arith) ∙ (let z : 0 + length data′ ≡ n = omega arith in rw (z, a .same-position)) in
-        let u : asks d c ++ [] ≡ request′ 0 NBD-CMD-READ 0 (k .position) n = append-nil (asks d c) ∙ at-position NBD-CMD-READ n in
-        let v : data′ ≡ take n (drop (k .position) (k .bytes)) = ap (λ (p : ℕ). take n (drop p (k .bytes))) (a .same-position) in
+        let u : asks d c ++ [] ≡ asking NBD-CMD-READ k n = append-nil (asks d c) ∙ at-position NBD-CMD-READ n in
+        let v : data′ ≡ here k n = ap (λ (p : ℕ). take n (drop p (k .bytes))) (a .same-position) in
         rw (w, u, v) at
         (well c buf data′ (readAfter k (some n)) (omega arith) l (no-payload p) (no-payload (rw (window-back front behind e (k .bytes) starts (a .whole)) at q))
         (record { same-size = a .same-size; same-position = ap (λ (x : ℕ). x + n) (a .same-position); whole = a .whole; same-flag = a .same-flag }))
@@ -143,7 +147,8 @@ module _ (t : List ℕ) (e : Export) (front behind : List ℕ) (starts : length 
       not-none z = omega arith
 
       write-out : k .read-only ≡ false
-          → Spoken (busy (Calling d (Write n (length buf)) (Asking 28)) buf ks rs) k ks (rs ++ resultOf (Succeeded (valueOf (Write n (length buf)))) buf ∷ []) (plain.stored k n buf) (request′ 0 NBD-CMD-WRITE 0 (k .position) n ++ take n buf) (simpleReply 0 0)
+          → Spoken (sends (Write n (length buf)) buf) k ks (rs ++ resultOf (Succeeded (valueOf (Write n (length buf)))) buf ∷ []) (plain.stored k n buf)
+          (asking NBD-CMD-WRITE k n ++ take n buf) (simpleReply 0 0)
       unfolding owed
       write-out w =
           let c = Write n (length buf) in
@@ -151,7 +156,8 @@ module _ (t : List ℕ) (e : Export) (front behind : List ℕ) (starts : length 
           let o = le-ltb (e .size) (d .position + n) (omega (arith, a .same-position, a .whole)) in
           let p = rw (free, ne-eqb n 0 not-none, o) at (request-judged t img e 0 (fields NBD-CMD-WRITE n (omega arith) h any g)) in
           let p′ = then p (stored t e 0 pay (d .position) n 0 (d .position + n) img (omega (arith, long)) (omega (arith, long))) in
-          let q = rw long at (whole-write t img e 0 0 (d .position) (omega arith) (omega (arith, a .same-position, a .whole)) pay (omega (arith, long)) (omega (arith, long)) free (omega (arith, long, a .same-position, a .whole))) in
+          let inner : d .position + length pay ≤ e .size = omega (arith, long, a .same-position, a .whole) in
+          let q = rw long at (whole-write t img e 0 0 (d .position) (omega arith) (omega (arith, small)) pay (omega (arith, long)) (omega (arith, long)) free inner) in
           let i : sets img (e .start + d .position) pay ≡ front ++ plain.stored k n buf .bytes ++ behind =
           rw (a .same-position) (sets-window front behind (k .bytes) pay (e .start) (k .position) n starts long g) in
           let l : length (plain.stored k n buf .bytes) ≡ length (k .bytes) =
@@ -162,7 +168,7 @@ module _ (t : List ℕ) (e : Export) (front behind : List ℕ) (starts : length 
           (record { same-size = a .same-size ∙ sym l; same-position = ap (λ (x : ℕ). x + n) (a .same-position); whole = l ∙ a .whole; same-flag = a .same-flag }))
 
       write-refused : k .read-only ≡ true
-          → Spoken (busy (Calling d (Write n (length buf)) (Asking 28)) buf ks rs) k ks (rs ++ resultOf (Failed 1) buf ∷ []) k (request′ 0 NBD-CMD-WRITE 0 (k .position) n ++ take n buf) (simpleReply 1 0)
+          → Spoken (sends (Write n (length buf)) buf) k ks (rs ++ resultOf (Failed 1) buf ∷ []) k (asking NBD-CMD-WRITE k n ++ take n buf) (simpleReply 1 0)
       unfolding owed
       write-refused w =
           let c = Write n (length buf) in
@@ -173,18 +179,19 @@ module _ (t : List ℕ) (e : Export) (front behind : List ℕ) (starts : length 
           rw (at-position NBD-CMD-WRITE n) at (ill c buf 1 below (omega arith) (λ z. omega arith) p′ q)
 
     trim-out : (n : ℕ) → n < 2 ^ 32 → 0 < n → k .position + n ≤ length (k .bytes)
-        → Spoken (busy (Calling d (Trim n) (Asking 28)) [] ks rs) k ks (rs ++ resultOf (Failed 38) [] ∷ []) k (request′ 0 NBD-CMD-TRIM 0 (k .position) n) (simpleReply 38 0)
+        → Spoken (sends (Trim n) []) k ks (rs ++ resultOf (Failed 38) [] ∷ []) k (asking NBD-CMD-TRIM k n) (simpleReply 38 0)
     trim-out n h any g =
         let c = Trim n in
         let p = request-judged t img e 0 (fields NBD-CMD-TRIM n (omega arith) h any g) in
         let q = whole-trim t img e 0 0 (d .position) (omega arith) (omega (arith, a .same-position, a .whole)) n h in
-        let u : asks d c ++ [] ≡ request′ 0 NBD-CMD-TRIM 0 (k .position) n = append-nil (asks d c) ∙ at-position NBD-CMD-TRIM n in
+        let u : asks d c ++ [] ≡ asking NBD-CMD-TRIM k n = append-nil (asks d c) ∙ at-position NBD-CMD-TRIM n in
         rw u at (ill c [] 38 (omega arith) (omega arith) (λ z. omega arith) (no-payload p) (no-payload q))
 
-    flush-out : Spoken (busy (Calling d Flush (Asking 28)) [] ks rs) k ks (rs ++ resultOf (Succeeded (valueOf Flush)) [] ∷ []) k (request′ 0 NBD-CMD-FLUSH 0 0 0) (simpleReply 0 0)
+    flush-out : Spoken (sends Flush []) k ks (rs ++ resultOf (Succeeded (valueOf Flush)) [] ∷ []) k (request′ 0 NBD-CMD-FLUSH 0 0 0) (simpleReply 0 0)
     flush-out =
         let c = Flush in
-        let p = request-judged t img e 0 {type = NBD-CMD-FLUSH} {handle = 0} {offset = 0} {len = 0} (record { type-fits = omega arith; handle-fits = omega arith; offset-fits = omega arith; len-fits = omega arith }) in
+        let f : Fits NBD-CMD-FLUSH 0 0 0 = record { type-fits = omega arith; handle-fits = omega arith; offset-fits = omega arith; len-fits = omega arith } in
+        let p = request-judged t img e 0 f in
         let q = whole-flush t img e 0 0 0 (omega arith) (omega arith) 0 (omega arith) in
         rw (append-nil (asks d c), append-nil (simpleReply 0 0)) at (well c [] [] k (omega arith) refl (no-payload p) (no-payload (no-data q)) a)
 
@@ -193,7 +200,8 @@ module _ (t : List ℕ) (e : Export) (front behind : List ℕ) (starts : length 
     more d′ rs′ = next d′ ks rs′
 
     read-by : (buf : List ℕ) (o : Option ℕ) → plain.transfer k (length buf) ≡ o
-        → Spoken (going d (granted d (λ n. Read n (length buf)) o) buf ks rs more) k ks (rs ++ readResult k buf o ∷ []) (readAfter k o) (ifSent o (λ n. request′ 0 NBD-CMD-READ 0 (k .position) n)) (ifSent o (λ n. simpleReply 0 0 ++ take n (drop (k .position) (k .bytes))))
+        → Spoken (going d (granted d (λ n. Read n (length buf)) o) buf ks rs more) k ks (rs ++ readResult k buf o ∷ []) (readAfter k o)
+        (ifSent o (asking NBD-CMD-READ k)) (ifSent o (λ n. simpleReply 0 0 ++ here k n))
     read-by buf none q = passed d k ks (rs ++ plain.refused 49 buf ∷ []) a
     read-by buf (some zero) q =
         passed-to d k (k .position + 0) ks (rs ++ plain.succeeds (0 ∷ []) buf ∷ [])
@@ -203,18 +211,20 @@ module _ (t : List ℕ) (e : Export) (front behind : List ℕ) (starts : length 
         rw (ne-eqb (suc n) 0 (λ z. omega arith)) (read-out buf (suc n) (g .0) (g .1) (omega arith) (g .2 (omega arith)))
 
     write-by : (buf : List ℕ) (o : Option ℕ) → plain.transfer k (length buf) ≡ o
-        → Spoken (going d (granted d (λ n. Write n (length buf)) o) buf ks rs more) k ks (rs ++ writeResult k buf o ∷ []) (writeAfter k buf o) (ifSent o (λ n. request′ 0 NBD-CMD-WRITE 0 (k .position) n ++ take n buf)) (ifSent o (λ n. simpleReply (pick (k .read-only) 1 0) 0))
+        → Spoken (going d (granted d (λ n. Write n (length buf)) o) buf ks rs more) k ks (rs ++ writeResult k buf o ∷ []) (writeAfter k buf o)
+        (ifSent o (λ n. asking NBD-CMD-WRITE k n ++ take n buf)) (ifSent o (λ n. simpleReply (pick (k .read-only) 1 0) 0))
     write-by buf none q = passed d k ks (rs ++ plain.refused 49 buf ∷ []) a
     write-by buf (some zero) q = passed d k ks (rs ++ plain.succeeds (0 ∷ []) buf ∷ []) a
     write-by buf (some (suc n)) q = rw (ne-eqb (suc n) 0 (λ z. omega arith)) (go (k .read-only) refl)
       where
         go : (b : Bool) → k .read-only ≡ b
-            → Spoken (busy (Calling d (Write (suc n) (length buf)) (Asking 28)) buf ks rs) k ks (rs ++ pick b (plain.fails 1 buf) (plain.succeeds (suc n ∷ []) buf) ∷ []) (pick b k (plain.stored k (suc n) buf)) (request′ 0 NBD-CMD-WRITE 0 (k .position) (suc n) ++ take (suc n) buf) (simpleReply (pick b 1 0) 0)
+            → Spoken (sends (Write (suc n) (length buf)) buf) k ks (rs ++ pick b (plain.fails 1 buf) (plain.succeeds (suc n ∷ []) buf) ∷ []) (pick b k (plain.stored k (suc n) buf))
+            (asking NBD-CMD-WRITE k (suc n) ++ take (suc n) buf) (simpleReply (pick b 1 0) 0)
         go true w = let g = grants k (length buf) (suc n) q in write-refused buf (suc n) (g .0) (g .1) (omega arith) (g .2 (omega arith)) w
         go false w = let g = grants k (length buf) (suc n) q in write-out buf (suc n) (g .0) (g .1) (omega arith) (g .2 (omega arith)) w
 
     trim-by : (len : ℕ) (o : Option ℕ) → plain.transfer k len ≡ o
-        → Spoken (going d (granted d Trim o) [] ks rs more) k ks (rs ++ trimResult o ∷ []) k (ifSent o (λ n. request′ 0 NBD-CMD-TRIM 0 (k .position) n)) (ifSent o (λ n. simpleReply 38 0))
+        → Spoken (going d (granted d Trim o) [] ks rs more) k ks (rs ++ trimResult o ∷ []) k (ifSent o (asking NBD-CMD-TRIM k)) (ifSent o (λ n. simpleReply 38 0))
     trim-by len none q = passed d k ks (rs ++ plain.refused 49 [] ∷ []) a
     trim-by len (some zero) q = passed d k ks (rs ++ plain.succeeds [] [] ∷ []) a
     trim-by len (some (suc n)) q =

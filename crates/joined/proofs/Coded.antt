@@ -89,7 +89,8 @@ module _ {t : List ℕ} {cu cd : ℕ} where
   runs-exec (client-step {c = c} {m = m} {ks = ks} {rs = rs} {s = s} {img = img} {u = u} {d = d} n room r m′ room′ h p q) f =
       let a = p .accepts (f .client-fits) in
       let i = runs-exec q (fit-step p f) in
-      let g : Exec drive (turn t) cu cd (client-bytes (take (r .taken) d) (take (r .given) room′)) (sys (settle (on (view c) m) ks rs) (on (viewed-server s) img) u d) (sys (settle (on (a .place) m′) ks rs) (on (viewed-server s) img) (u ++ take (r .given) room′) (drop (r .taken) d)) =
+      let g : Exec drive (turn t) cu cd (client-bytes (take (r .taken) d) (take (r .given) room′)) (sys (settle (on (view c) m) ks rs) (on (viewed-server s) img) u d)
+      (sys (settle (on (a .place) m′) ks rs) (on (viewed-server s) img) (u ++ take (r .given) room′) (drop (r .taken) d)) =
       client-goes n (follows-goes (λ x. settle x ks rs) (followed ks rs) (a .steps .goes)) h in
       (exec-then (rw (stepped ks rs r (a .place) m′ (a .state) (a .outcome)) at g) (i .0), i .1)
   runs-exec (server-step n room r img′ room′ h p q) f =

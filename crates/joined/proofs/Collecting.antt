@@ -17,7 +17,8 @@ use Rattle.machine.specs.Bulk.{less}
 use Rattle.machine.specs.Follows.{through}
 use Rattle.machine.proofs.Moves.{kept}
 use Rattle.client.specs.Calls.{transfer, sought, amount, payload, valueOf}
-use Rattle.client.specs.Session.{Handshake, Magic, Style, Newstyle, Hello, Naming, Terms, Filler, Progress, Asking, Paying, Hearing, Filling, State, Blank, Shaking, Ready, Calling, Closed, Over, naming, greeting, paying, asking, turn}
+use Rattle.client.specs.Session.{Handshake, Magic, Style, Newstyle, Hello, Naming, Terms, Filler, Progress, Asking, Paying, Hearing, Filling}
+use Rattle.client.specs.Session.{State, Blank, Shaking, Ready, Calling, Closed, Over, naming, greeting, paying, asking, turn}
 use Rattle.client.specs.declared.state.Device.{Device}
 use Rattle.client.specs.declared.state.Call as request
 use Rattle.client.specs.declared.state.Call.the-variants.{Read, Write, Trim}

@@ -34,7 +34,6 @@ use Rattle.joined.proofs.Coded.{Fit, Fits, stands, runs-exec}
 use Rattle.joined.proofs.Calls.{Told, calls-talk}
 use Rattle.joined.proofs.Formula.{length-questions, length-answers}
 use Rattle.joined.proofs.Opening.{begun, sound-record, short, front, in-parts, first-agrees, handshake-talk, carried-up, carried-down}
-use Rattle.joined.proofs.Hosted.{rounds}
 
 pub length-results : (ks : List Call) (k : Disk) → length (results k ks) ≡ length ks
 length-results [] k = refl
@@ -105,11 +104,13 @@ module _ {t img name : List ℕ} {k : ℕ} (holds : Holds t img name k) (ks : Li
   abbrev pub Outcome : List Result → List ℕ → Type 0
   Outcome rs img′ = (rs ≡ all) × (img′ ≡ placed img (export t k .start) (final plain ks .bytes))
 
-  pub ended : (c : Client) (m : List ℕ) (rs : List Result) (s : Server) (img′ u d : List ℕ) → Ready c → stands (joint c m [] rs s img′ u d) ≡ sys (over all) end [] [] → Outcome rs img′
+  pub ended : (c : Client) (m : List ℕ) (rs : List Result) (s : Server) (img′ u d : List ℕ)
+      → Ready c → stands (joint c m [] rs s img′ u d) ≡ sys (over all) end [] [] → Outcome rs img′
   ended c m rs s img′ u d i h =
       let r : over rs ≡ over all = ap (λ (x : client.State). settle (on x m) [] rs) (sym (i .rests)) ∙ ap the-client h in
       let j : img′ ≡ before ++ final plain ks .bytes ++ behind = cc (ap the-server h) in
       (cc r, rw (told .whole) j)
 
-  pub executed : {cu cd : ℕ} {b : Bytes} {z : Code} → Runs t cu cd b (begin name ks img) z → Exec drive (serve t) cu cd b (sys start (on (Shaking (Greeting 18)) img) [] []) (stands z) × Fits t z
+  pub executed : {cu cd : ℕ} {b : Bytes} {z : Code} → Runs t cu cd b (begin name ks img) z
+      → Exec drive (serve t) cu cd b (sys start (on (Shaking (Greeting 18)) img) [] []) (stands z) × Fits t z
   executed p = let i = runs-exec p fit in (rw starts at (i .0), i .1)

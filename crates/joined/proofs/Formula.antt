@@ -13,9 +13,9 @@ use Rattle.wire.specs.Fields.{be}
 use Rattle.wire.specs.Constants.{NBD-CMD-READ, NBD-CMD-WRITE, NBD-CMD-TRIM}
 use Rattle.wire.specs.Layouts.{request, simpleReply}
 use Rattle.server.proofs.Session.{length-reply}
-use Rattle.joined.specs.Disk.{Disk, Call, read, write, seek, flush, trim, transfer, after}
+use Rattle.joined.specs.Disk.{Disk, here, Call, read, write, seek, flush, trim, transfer, after}
 use Rattle.joined.specs.Carried.{ifMoves, up, down, ups, downs}
-use Rattle.joined.specs.Said.{ifSent, question, answer, questions, answers}
+use Rattle.joined.specs.Said.{ifSent, asking, question, answer, questions, answers}
 use Rattle.joined.proofs.Calls.{grants}
 
 length-request : (type offset n : ℕ) → length (request 0 type 0 offset n) ≡ 28
@@ -33,22 +33,22 @@ sent k len f g h = go (transfer k len) h
     go (some (suc n)) h = h n refl
 
 pub length-question : (k : Disk) (c : Call) → length (question k c) ≡ up k c
-length-question k (read buf) = sent k (length buf) (λ n. request 0 NBD-CMD-READ 0 (k .position) n) (λ n. 28) (λ n e. length-request NBD-CMD-READ (k .position) (suc n))
+length-question k (read buf) = sent k (length buf) (asking NBD-CMD-READ k) (λ n. 28) (λ n e. length-request NBD-CMD-READ (k .position) (suc n))
 length-question k (write buf) =
-    sent k (length buf) (λ n. request 0 NBD-CMD-WRITE 0 (k .position) n ++ take n buf) (λ n. 28 + n)
+    sent k (length buf) (λ n. asking NBD-CMD-WRITE k n ++ take n buf) (λ n. 28 + n)
     λ n e.
-    length-append (request 0 NBD-CMD-WRITE 0 (k .position) (suc n)) (take (suc n) buf)
+    length-append (asking NBD-CMD-WRITE k (suc n)) (take (suc n) buf)
     ∙ rw (length-request NBD-CMD-WRITE (k .position) (suc n), length-take-le (suc n) buf (grants k (length buf) (suc n) e .0))
 length-question k (seek f) = refl
 length-question k flush = length-request 3 0 0
-length-question k (trim len) = sent k len (λ n. request 0 NBD-CMD-TRIM 0 (k .position) n) (λ n. 28) (λ n e. length-request NBD-CMD-TRIM (k .position) (suc n))
+length-question k (trim len) = sent k len (asking NBD-CMD-TRIM k) (λ n. 28) (λ n e. length-request NBD-CMD-TRIM (k .position) (suc n))
 
 pub length-answer : (k : Disk) (c : Call) → length (answer k c) ≡ down k c
 length-answer k (read buf) =
-    sent k (length buf) (λ n. simpleReply 0 0 ++ take n (drop (k .position) (k .bytes))) (λ n. 16 + n)
+    sent k (length buf) (λ n. simpleReply 0 0 ++ here k n) (λ n. 16 + n)
     λ n e.
     let g = grants k (length buf) (suc n) e .2 (omega arith) in
-    length-append (simpleReply 0 0) (take (suc n) (drop (k .position) (k .bytes)))
+    length-append (simpleReply 0 0) (here k (suc n))
     ∙ rw (length-reply 0 0, length-take-le (suc n) (drop (k .position) (k .bytes)) (omega (arith, length-drop (k .position) (k .bytes))))
 length-answer k (write buf) = sent k (length buf) (λ n. simpleReply (pick (k .read-only) 1 0) 0) (λ n. 16) (λ n e. length-reply (pick (k .read-only) 1 0) 0)
 length-answer k (seek f) = refl

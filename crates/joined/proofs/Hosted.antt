@@ -100,7 +100,8 @@ module _ {t : List ℕ} {cu cd : ℕ} where
       → the-client (stands x) ≡ over all → left z ≡ []
   all-made all (client-visit {ks = ks} {rs = rs} n room r m′ room′ any fits h p q) f b e = none-more q (h (is-ready ks rs all f e))
   all-made all (server-visit {c = c} {m = m} {ks = ks} {rs = rs} {s = s} {img = img} {u = u} {d = d} n room r img′ room′ any fits p q) f b e =
-      let g : Exec drive (serve t) cu cd (server-bytes (take (r .taken) u) (take (r .given) room′)) (stands (joint c m ks rs s img u d)) (stands (joint c m ks rs (r .state) img′ (drop (r .taken) u) (d ++ take (r .given) room′))) =
+      let g : Exec drive (serve t) cu cd (server-bytes (take (r .taken) u) (take (r .given) room′)) (stands (joint c m ks rs s img u d))
+      (stands (joint c m ks rs (r .state) img′ (drop (r .taken) u) (d ++ take (r .given) room′))) =
       server-goes n (p .accepts (f .server-fits) .steps .goes) (fits .fits) in
       all-made all q (fit-serve p f) (rw (stuck-stays b g) at b) e
   all-made all (call {c = c} {m = m} {ks = ks} {rs = rs} k r y e q) f b o =

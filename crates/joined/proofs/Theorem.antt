@@ -4,6 +4,7 @@
 --   outside         and the bytes outside the window are as they were
 --   carried-bytes, carried-formula   and the bytes of these calls have gone up and down, as many as 01's formula says
 --   same-outcome    so two runs end alike, on wires of any capacities
+--   never-refused   no step is refused
 --   as-soon-as      at every moment the results so far are the plain disk's first results
 --   one-for-each    and each call that is closed has its result
 --   moves, carries  while the handshake or a call is open, some move carries a byte
@@ -22,17 +23,17 @@ use Rattle.machine.specs.Wires.{Sys, sys, the-client, Who, Move}
 use Rattle.machine.proofs.Talking.{stuck}
 use Rattle.machine.proofs.Outcome.{talk-midway, talk-bounded, talk-goes-on, talk-fair}
 use Rattle.server.specs.Session.{State, turn as serve}
+use Rattle.server.specs.Ranges.{refusal}
 use Rattle.server.specs.declared.state.Server.{Server}
 use Rattle.client.specs.Session as client
 use Rattle.client.specs.View.{view}
-use Rattle.client.specs.Calls.{device}
-use Rattle.client.specs.Contract.{fresh}
+use Rattle.client.specs.Ranges.{refusal as why}
 use Rattle.client.specs.declared.state.Client.{Client}
-use Rattle.joined.specs.Disk.{Disk, Call, Result, after, results, final, placed}
+use Rattle.joined.specs.Disk.{Disk, Call, Result, results, final, placed}
 use Rattle.joined.specs.Carried.{upAll, downAll}
 use Rattle.joined.specs.Said.{saidUp, saidDown}
 use Rattle.joined.specs.Code.{joint, Ready, Runs, Holds, begin, export, disk, opening, ClientCarries, ServerCarries}
-use Rattle.joined.specs.Host.{Rounds, round}
+use Rattle.joined.specs.Host.{Rounds}
 use Rattle.joined.proofs.Driver.{Driver, over, settle, drive}
 use Rattle.joined.proofs.Coded.{stands}
 use Rattle.joined.proofs.Ending.{talk-over}
@@ -56,7 +57,8 @@ module _ {t img name : List ℕ} {k : ℕ} (holds : Holds t img name k) (ks : Li
   image = placed img (export t k .start) (final plain ks .bytes)
 
   module _ {cu cd : ℕ} (hu : 0 < cu) (hd : 0 < cd) where
-    module _ {b : Bytes} {c : Client} {m : List ℕ} {rs : List Result} {s : Server} {img′ u d : List ℕ} (run : Runs t cu cd b (begin name ks img) (joint c m [] rs s img′ u d)) (closed : Ready c) where
+    module _ {b : Bytes} {c : Client} {m : List ℕ} {rs : List Result} {s : Server} {img′ u d : List ℕ}
+        (run : Runs t cu cd b (begin name ks img) (joint c m [] rs s img′ u d)) (closed : Ready c) where
       at-end : (stands (joint c m [] rs s img′ u d) ≡ sys (over all) (end holds ks) [] []) × (b ≡ talk-bytes (saidUp name plain ks) (saidDown (export t k) plain ks))
       at-end = talk-over hu hd (talk holds ks) refl refl (by-take all) (executed holds ks run .0) (rw (closed .rests))
 
@@ -70,12 +72,13 @@ module _ {t img name : List ℕ} {k : ℕ} (holds : Holds t img name k) (ks : Li
       outside =
           let r = export t k in
           let before = take (r .start) img in
+          let behind = drop (r .start + r .size) img in
           let bs = final plain ks .bytes in
           let whole = told holds ks .whole in
           let l : length (before ++ bs) ≡ r .start + r .size = length-append before bs ∙ omega (arith, front holds, whole) in
-          let i : img′ ≡ before ++ bs ++ drop (r .start + r .size) img = plain-disk .1 ∙ ap (λ (n : ℕ). before ++ bs ++ drop (r .start + n) img) whole in
+          let i : img′ ≡ before ++ bs ++ behind = plain-disk .1 ∙ ap (λ (n : ℕ). before ++ bs ++ drop (r .start + n) img) whole in
           rw i
-          (rw (append-assoc before bs (drop (r .start + r .size) img)) (take-at before (bs ++ drop (r .start + r .size) img) (r .start) (front holds)), drop-at (before ++ bs) (drop (r .start + r .size) img) (r .start + r .size) l)
+          (rw (append-assoc before bs behind) (take-at before (bs ++ behind) (r .start) (front holds)), drop-at (before ++ bs) behind (r .start + r .size) l)
 
       pub carried-bytes : (b .client-out ≡ saidUp name plain ks) × (b .server-in ≡ saidUp name plain ks)
           × (b .server-out ≡ saidDown (export t k) plain ks) × (b .client-in ≡ saidDown (export t k) plain ks)
@@ -85,9 +88,14 @@ module _ {t img name : List ℕ} {k : ℕ} (holds : Holds t img name k) (ks : Li
           × (length (b .server-out) ≡ downAll plain ks) × (length (b .client-in) ≡ downAll plain ks)
       carried-formula = rw (at-end .1) (length-up holds ks, length-up holds ks, length-down holds ks, length-down holds ks)
 
-    module _ {b : Bytes} {c : Client} {m : List ℕ} {ls : List Call} {rs : List Result} {s : Server} {img′ u d : List ℕ} (run : Runs t cu cd b (begin name ks img) (joint c m ls rs s img′ u d)) where
+    module _ {b : Bytes} {c : Client} {m : List ℕ} {ls : List Call} {rs : List Result} {s : Server} {img′ u d : List ℕ}
+        (run : Runs t cu cd b (begin name ks img) (joint c m ls rs s img′ u d)) where
       abbrev here : Sys Driver (On State)
       here = stands (joint c m ls rs s img′ u d)
+
+      -- No step is refused, of either side.
+      pub never-refused : (why (length m) c ≡ 0) × (refusal t (length img′) s ≡ 0)
+      never-refused = let f = executed holds ks run .1 in (f .client-fits, f .server-fits)
 
       -- As soon as a call is closed its result is the plain disk's.
       pub as-soon-as : rs ≡ take (length rs) all

@@ -3,11 +3,10 @@
 --   cases          the list
 -- The server's and the client's cases run their machines (`run`) over the bytes of the case; 0x and small numbers are as 01 has them.
 use Prim.Native.Nat.{ℕ, _^_}
-use mathlib.Core.Bool.{Bool, true}
+use mathlib.Core.Bool.{Bool, true, false}
 use mathlib.Core.List.{List, [], _∷_, _++_}
 use mathlib.Core.Option.{Option, none, some}
 use lib.IntN.{ℤ, negsuc}
-use lib.ListN.{length}
 use Rattle.machine.specs.Choice.{both}
 use Rattle.machine.specs.Machine.{On, on}
 use Rattle.machine.specs.Run.{Ran, run}
@@ -24,6 +23,7 @@ use Rattle.client.specs.Calls.{device, positioned}
 use Rattle.client.specs.Contract as calls
 use Rattle.client.specs.declared.calls.SeekFrom.the-variants.{Current}
 use Rattle.client.specs.declared.Called.{Called}
+use Rattle.joined.specs.Disk.{seek, from-here, Result, result}
 
 pub record Case : Type 0 where
   pub found : List ℕ
@@ -80,6 +80,13 @@ sought p z = answer (calls.seeking (Current z) (code (client.Ready (positioned (
     answer : Called → List ℕ
     answer r = number (calls.numberOf (r .outcome)) ++ calls.valuesOf (r .outcome)
 
+-- the same on the plain disk
+abbrev plainly : ℕ → ℤ → List ℕ
+plainly p z = answer (result (record { bytes = bytes; read-only = false; position = p }) (seek (from-here z)))
+  where
+    answer : Result → List ℕ
+    answer r = number (r .number) ++ r .values
+
 -- ---- the list
 abbrev pub cases : List Case
 cases =
@@ -106,8 +113,11 @@ cases =
     -- P10 client, name "a"
     ∷ is (greeted .given) (
     0x00 ∷ 0x00 ∷ 0x00 ∷ 0x01 ∷ 0x49 ∷ 0x48 ∷ 0x41 ∷ 0x56 ∷ 0x45 ∷ 0x4F ∷ 0x50 ∷ 0x54 ∷ 0x00 ∷ 0x00 ∷ 0x00 ∷ 0x01 ∷ 0x00 ∷ 0x00 ∷ 0x00 ∷ 0x01 ∷ 0x61 ∷ [])
-    -- P11 position 5, seek -5 and -6; P12 seek by -2^63 from 2^63
+    -- P11 position 5, seek -5 and -6; P12 seek by -2^63 from 2^63; the client, then the plain disk
     ∷ is (sought 5 (negsuc 4)) (0 ∷ [])
     ∷ is (sought 5 (negsuc 5)) (48 ∷ [])
     ∷ is (sought (2 ^ 63) (negsuc 0x7FFFFFFFFFFFFFFF)) (48 ∷ [])
+    ∷ is (plainly 5 (negsuc 4)) (0 ∷ [])
+    ∷ is (plainly 5 (negsuc 5)) (48 ∷ [])
+    ∷ is (plainly (2 ^ 63) (negsuc 0x7FFFFFFFFFFFFFFF)) (48 ∷ [])
     ∷ []

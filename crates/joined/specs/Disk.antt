@@ -3,6 +3,7 @@
 --   Result             a call's number, its values, and what its buffer holds afterwards
 --   transfer d k       how many bytes a read, a write or a trim of k bytes moves; none where the position is past the size
 --   shifted p z        p plus a signed number, where there is an answer
+--   here d n           the n bytes from the position on
 --   result d k         the result of the call k
 --   after d k          the disk after it
 --   results, final     those of a list of calls
@@ -66,9 +67,13 @@ target d (from-here z) = shifted (d .position) z
 target d (from-end z) = shifted (length (d .bytes)) z
 
 -- ---- results, by how many bytes are moved
+-- the n bytes from the position on
+abbrev pub here : Disk → ℕ → List ℕ
+here d n = take n (drop (d .position) (d .bytes))
+
 abbrev pub readResult : Disk → List ℕ → Option ℕ → Result
 readResult d buf none = refused 49 buf
-readResult d buf (some n) = succeeds (n ∷ []) (take n (drop (d .position) (d .bytes)) ++ drop n buf)
+readResult d buf (some n) = succeeds (n ∷ []) (here d n ++ drop n buf)
 
 -- "n = 0 sends nothing and succeeds"; "writes store n or fail 47 with error 1"
 abbrev pub writeResult : Disk → List ℕ → Option ℕ → Result
