@@ -1,12 +1,12 @@
 #!/usr/bin/env python3
-"""The gate's script for the program `trace`, server half, and the lines that it has to write.
+"""The gate's script for the program `trace`, and the lines that it has to write.
 
     python3 compare/trace.py stdin  > crates/trace/stdin
     python3 compare/trace.py stdout > crates/trace/stdout
     python3 compare/trace.py count
 
-The lines come from the model below: a server that goes a byte at a time, written from document 01's words and
-knowing nothing of the port. Standard library only; the same bytes at every run.
+The lines come from the models below: a server and a client that go a byte at a time, written from document 01's words
+and knowing nothing of the port. Standard library only; the same bytes at every run.
 """
 import struct
 import sys
@@ -272,6 +272,172 @@ def oldstyle(room, size, flags):
     return b"NBDMAGIC" + bytes.fromhex("0000420281861253") + struct.pack(">QI", size, flags) + bytes(124)
 
 
+# ---- the model: a client, a byte at a time
+
+
+OLD_MAGIC = bytes.fromhex("0000420281861253")
+
+
+class Caller:
+    """One client. `owed` is what is still to be given: bytes, or places of the lent slice. Every byte taken goes to `take`."""
+
+    def __init__(self):
+        self.over = None  # the number of the end
+        self.device = None  # [size, position, flags] once the handshake is closed
+        self.open = None  # the open call: its word
+        self.lent = 0  # the length that was lent when it was opened
+        self.owed = deque()
+        self.got = []  # the bytes of the handshake, or of the reply and its data
+        self.closed = None  # how the call was closed, in the step that closes it
+
+    # -- the calls: (word, number or value)
+    def start(self, word, lent, owed):
+        self.open, self.lent, self.owed, self.got = word, lent, deque(owed), []
+        return "on", None
+
+    def handshake(self, name):
+        if self.open or self.device or self.over is not None:
+            return "no", 51
+        if len(name) > 4096:
+            return "no", 44
+        return self.start("handshake", len(name), [])
+
+    def busy(self):
+        return bool(self.open) or self.device is None or self.over is not None
+
+    def transfer(self, word, kind, wish, lent, payload):
+        if self.busy():
+            return "no", 51
+        size, position, _ = self.device
+        if position > size:
+            return "no", 49
+        self.n = min(wish, size - position, 2**32 - 1)
+        if self.n == 0:
+            return "ok", 0
+        return self.start(word, lent, list(self.request(kind, position, self.n)) + [("lent", k) for k in range(self.n if payload else 0)])
+
+    def read(self, buffer):
+        return self.transfer("read", 0, len(buffer), len(buffer), False)
+
+    def write(self, buffer):
+        return self.transfer("write", 1, len(buffer), len(buffer), True)
+
+    def trim(self, length):
+        return self.transfer("trim", 4, length, 0, False)
+
+    def flush(self):
+        return ("no", 51) if self.busy() else self.start("flush", 0, self.request(3, 0, 0))
+
+    def resize(self, size):
+        if self.busy():
+            return "no", 51
+        self.new_size = size
+        return self.start("resize", 0, self.request(8, size, 0))
+
+    def seek(self, whence, offset):
+        if self.busy():
+            return "no", 51
+        size, position, _ = self.device
+        to = (0, position, size)[whence] + offset
+        if not 0 <= to < 2**64 or (whence and offset == -(2**63)):
+            return "no", 48
+        self.device[1] = to
+        return "ok", to
+
+    @staticmethod
+    def request(kind, offset, length):
+        return bytes.fromhex("256095130000") + struct.pack(">HQQI", kind, 0, offset, length)
+
+    def end_of_input(self):
+        if self.over is None:
+            self.over = 50
+        return "end", self.over
+
+    # -- a step
+    def step(self, lent, data, room):
+        """(word, number or value, taken, output); a read's bytes go into `lent`."""
+        if self.over is not None:
+            return "end", self.over, 0, b""
+        if self.open and len(lent) != self.lent:
+            return "no", 52, 0, b""
+        taken, out, self.closed = 0, bytearray(), None
+        while self.over is None and self.open:
+            if self.owed:
+                if len(out) == room:
+                    break
+                b = self.owed.popleft()
+                out.append(lent[b[1]] if isinstance(b, tuple) else b)
+            elif taken < len(data):
+                self.got.append(data[taken])
+                taken += 1
+                if self.open == "handshake":
+                    self.shaken()
+                else:
+                    self.heard(lent)
+            else:
+                break
+        if self.over is not None:
+            return "end", self.over, taken, bytes(out)
+        word, value = self.closed or ("on", None)
+        return word, value, taken, bytes(out)
+
+    def close(self, word, value):
+        self.open, self.closed = None, (word, value)
+
+    def shaken(self):
+        got = bytes(self.got)
+        n, new = len(got), got[8:16] == OPTION_MAGIC
+        if n == 8 and got != b"NBDMAGIC":
+            self.over = 40
+        if n == 16 and not new:
+            if got[8:] != OLD_MAGIC:
+                self.over = 41
+            elif self.lent:
+                self.over = 42
+        if n == 18 and new:
+            self.owed = deque(b"\0\0\0\1IHAVEOPT\0\0\0\1" + struct.pack(">I", self.lent))
+            self.owed += [("lent", k) for k in range(self.lent)]
+        if n == 152:
+            if any(got[28:]):
+                self.over = 43
+                return
+            size, flags = number(got[18:26] if new else got[16:24]), number(got[26:28])
+            self.device = [size, 0, flags if flags & 1 else 0]
+            self.close("ok", size)
+
+    def heard(self, lent):
+        n = len(self.got)
+        if n == 16:
+            signature, error, handle = struct.unpack(">IIQ", bytes(self.got))
+            if signature != 0x67446698:
+                self.over = 45
+            elif handle:
+                self.over = 46
+            elif error:
+                self.close("fail", error)
+            elif self.open != "read":
+                self.succeed()
+        if n > 16:
+            lent[n - 17] = self.got[-1]
+            if n == 16 + self.n:
+                self.succeed()
+
+    def succeed(self):
+        value = 0
+        if self.open in ("read", "write"):
+            value = self.n
+            self.device[1] += self.n
+        if self.open == "resize":
+            value = self.device[0] = self.new_size
+        self.close("ok", value)
+
+    def shown(self):
+        if self.device is None or self.over is not None:
+            return "client -"
+        size, position, flags = self.device
+        return f"client {size} {position} " + " ".join("1" if flags & bit else "0" for bit in (2, 512, 16, 32, 4))
+
+
 # ---- the script
 
 
@@ -283,6 +449,7 @@ class Script:
         self.count = 0
         self.seen = set()  # words and numbers
         self.table, self.image, self.session = b"", bytearray(), Session()
+        self.slice, self.caller = bytearray(), Caller()
 
     def record(self, command, payload=b""):
         self.records += command + struct.pack(">I", len(payload)) + payload
@@ -325,6 +492,83 @@ class Script:
         self.record(b"o", struct.pack(">IQI", room, size, flags))
         header = oldstyle(room, size, flags)
         self.line(*(("no", 13, 0, b"") if header is None else ("on", None, 0, header)))
+
+    # -- the client's
+    def lend_slice(self, slice_):
+        self.slice = bytearray(slice_)
+        self.record(b"B", bytes(slice_))
+
+    def fresh_client(self):
+        self.caller = Caller()
+        self.record(b"C")
+
+    def call(self, command, payload, answer):
+        self.record(command, payload)
+        self.line(*answer, 0, b"")
+        return answer
+
+    def handshake(self):
+        return self.call(b"h", b"", self.caller.handshake(self.slice))
+
+    def hang_up(self):
+        return self.call(b"x", b"", self.caller.end_of_input())
+
+    def read(self):
+        return self.call(b"r", b"", self.caller.read(self.slice))
+
+    def write(self):
+        return self.call(b"w", b"", self.caller.write(self.slice))
+
+    def seek(self, whence, offset):
+        return self.call(b"k", bytes([whence]) + (offset % 2**64).to_bytes(8, "big"), self.caller.seek(whence, offset))
+
+    def flush(self):
+        return self.call(b"f", b"", self.caller.flush())
+
+    def trim(self, length):
+        return self.call(b"t", struct.pack(">Q", length), self.caller.trim(length))
+
+    def resize(self, size):
+        return self.call(b"z", struct.pack(">Q", size), self.caller.resize(size))
+
+    def drive(self, room, data=b""):
+        self.record(b"c", struct.pack(">I", room) + data)
+        answer = self.caller.step(self.slice, data, room)
+        self.line(*answer)
+        return answer
+
+    def show_slice(self):
+        self.record(b"b")
+        self.lines.append("slice " + (self.slice.hex() or "-"))
+
+    def ask(self):
+        self.record(b"q")
+        self.lines.append(self.caller.shown())
+
+    def pump(self, data, cut, room):
+        """The server's bytes in pieces of `cut`, each step with this room, until nothing moves. What was taken and given, and the end."""
+        piece, rest, taken, out = b"", data, 0, b""
+        while True:
+            if not piece:
+                piece, rest = rest[:cut], rest[cut:]
+            word, number, t, o = self.drive(room, piece)
+            piece, taken, out = piece[t:], taken + t, out + o
+            if word != "on" or (t == 0 and not o and not rest):
+                return word, number, taken, out
+
+    def pump_all(self, begin, data, ways=((10**6, 65536), (1, 65536), (7, 1), (29, 5))):
+        """The same bytes after the same beginning, in one piece, in single bytes and in small rooms: the same totals."""
+        totals = []
+        for cut, room in ways:
+            begin()
+            first = self.drive(0, data[:3])[2]
+            word, number, taken, out = self.pump(data[first:], cut, room)
+            totals.append((word, number, first + taken, out, bytes(self.slice), self.caller.shown()))
+            self.show_slice()
+            self.ask()
+            self.drive(50, b"more")
+        assert len(set(totals)) == 1, totals
+        return totals[0]
 
     def bad(self, record):
         """Ends the script."""
@@ -705,6 +949,361 @@ def headers(s):
     s.oldstyle(152, 2**64 - 1, 2**32 - 1)
 
 
+# ---- a server's bytes
+
+
+def newstyle(size, flags, said=b"\x00\x03", filler=bytes(124)):
+    return b"NBDMAGICIHAVEOPT" + said + struct.pack(">QH", size, flags) + filler
+
+
+def old(size, flags, filler=bytes(124)):
+    return oldstyle(152, size, flags)[:28] + filler
+
+
+def reply(error=0, data=b"", signature=0x67446698, handle=0):
+    return struct.pack(">IIQ", signature, error, handle) + data
+
+
+def connect(s, size, flags=5, position=0):
+    """A ready client, in one step."""
+    s.fresh_client()
+    s.lend_slice(b"")
+    s.handshake()
+    s.drive(100, newstyle(size, flags))
+    if position:
+        s.seek(0, position)
+
+
+def client_handshakes(s):
+    def begin(name):
+        def go():
+            s.fresh_client()
+            s.lend_slice(name)
+            s.ask()
+            s.handshake()
+            s.ask()
+
+        return go
+
+    s.fresh_client()
+    s.ask()
+    # P10
+    answer = s.pump_all(begin(b"a"), newstyle(8, 5))
+    assert answer[:4] == ("ok", 8, 152, bytes.fromhex("00000001 49484156454F5054 00000001 00000001 61"))
+    for name in (b"", b"ro", b"\xed\xa0\x80"):
+        s.pump_all(begin(name), newstyle(2**64 - 1, 19, b"\xff\xff") + b"rest")
+    s.pump_all(begin(b"n" * 4096), newstyle(0, 1), ((10**6, 65536), (10**6, 1000)))
+    s.lend_slice(b"n" * 4097)
+    s.fresh_client()
+    s.handshake()
+    s.drive(10, b"x")
+    for flags in (0, 1, 2, 3, 4, 5, 17, 33, 513, 0xFFFE, 0xFFFF, 0xFDC9):
+        s.pump_all(begin(b""), newstyle(flags, flags), ((10**6, 65536),))
+        for high in (0, 0xFFFF0000, 0x00010000):
+            s.pump_all(begin(b""), old(flags, high + flags), ((10**6, 65536),))
+    s.pump_all(begin(b""), old(0x0123456789ABCDEF, 0xFFFF0205) + b"rest")
+    # 40 to 43
+    good, header = newstyle(8, 5), old(8, 5)
+    for k in range(8):
+        for data in (good, header):
+            s.pump_all(begin(b"a"), data[:k] + b"x" + data[k + 1 :], ((10**6, 65536), (1, 0)))
+    for k in range(8, 16):
+        for data in (good, header):
+            for name in (b"", b"a"):
+                s.pump_all(begin(name), data[:k] + b"x" + data[k + 1 :], ((10**6, 65536), (1, 0)))
+    s.pump_all(begin(b"a"), header)
+    s.pump_all(begin(b"a"), header[:16] + b"rest")
+    for k in (0, 1, 62, 123):
+        filler = bytes(k) + b"\x01" + bytes(123 - k)
+        s.pump_all(begin(b"a"), newstyle(8, 5, filler=filler))
+        s.pump_all(begin(b""), old(8, 5, filler) + b"rest")
+    s.pump_all(begin(b""), newstyle(8, 5, filler=b"\xff" * 124))
+
+
+def client_cut_handshakes(s):
+    """The end of input after every byte; 52, and a name that changes; calls that come too early."""
+    for name, data in ((b"ab", newstyle(8, 5)), (b"", old(8, 5))):
+        for k in range(len(data) + 1):
+            s.fresh_client()
+            s.lend_slice(name)
+            s.handshake()
+            s.drive(100, data[:k])
+            s.hang_up()
+            s.hang_up()
+            s.ask()
+        for k in (1, 17, 18, 151):
+            s.fresh_client()
+            s.lend_slice(name)
+            s.handshake()
+            s.pump(data[:k], 1, 1)
+            s.hang_up()
+    for given in range(23):
+        s.fresh_client()
+        s.lend_slice(b"ab")
+        s.handshake()
+        s.drive(given, newstyle(8, 5))
+        s.lend_slice(b"abc")
+        s.drive(100, bytes(134))
+        s.lend_slice(b"")
+        s.drive(0)
+        s.lend_slice(b"xy")
+        s.read()
+        s.handshake()
+        s.drive(5, newstyle(8, 5)[18:])
+        s.hang_up()
+        s.drive(100, newstyle(8, 5)[18:])
+    s.fresh_client()
+    s.lend_slice(b"ab")
+    s.handshake()
+    s.drive(100, newstyle(8, 5)[:151])
+    s.lend_slice(b"a")
+    s.drive(100, b"\x00")
+    s.lend_slice(b"cd")
+    s.drive(100, b"\x00\x00")
+    s.lend_slice(b"any length")
+    s.drive(100, b"\x00\x00")
+
+
+def every_call(s):
+    """All calls, as they are answered here."""
+    for offset in (0, 2**64 - 1):
+        s.seek(0, offset)
+    for whence in (1, 2):
+        for offset in (0, 3, -3, -(2**63), 2**63 - 1):
+            s.seek(whence, offset)
+    for slice_ in (b"", b"buffer", b"n" * 4097):
+        s.lend_slice(slice_)
+        s.handshake()
+        s.read()
+        s.write()
+    s.trim(0)
+    s.trim(5)
+    s.flush()
+    s.resize(9)
+    s.ask()
+
+
+def client_refused(s):
+    """51: before ready, while a call is open, after an end; the open call goes on."""
+    s.fresh_client()
+    s.ask()
+    every_call(s)
+    s.lend_slice(b"")
+    s.fresh_client()
+    s.drive(20, b"idle")
+    s.lend_slice(b"other")
+    s.drive(0, b"idle")
+    s.hang_up()
+    every_call(s)
+    s.drive(20, b"idle")
+    # a ready client has had its handshake
+    connect(s, 8, 5, 2)
+    for name in (b"", b"a", b"n" * 4097):
+        s.lend_slice(name)
+        s.handshake()
+        s.drive(100, b"idle")
+        s.ask()
+    for slice_, call in ((b"12345", s.read), (b"12345", s.write), (b"", s.flush), (b"", lambda: s.trim(3)), (b"", lambda: s.resize(3))):
+        connect(s, 8, 5, 2)
+        s.lend_slice(slice_)
+        call()
+        for room, data in ((0, b"xx"), (27, b"xx"), (100, b""), (100, reply()[:9]), (100, reply(0, b"abcd")[9:19])):
+            s.drive(room, data)
+            if room == 27:
+                every_call(s)
+            s.lend_slice(bytes(slice_) + b"!")
+            s.drive(100, b"more")
+            s.show_slice()
+            s.lend_slice(slice_)
+            s.ask()
+        s.hang_up()
+        every_call(s)
+        s.lend_slice(b"123")
+        s.drive(100, b"more")
+
+
+CALLS = (
+    (b"buffer", lambda s: s.read(), b"answer"),
+    (b"a longer buffer", lambda s: s.read(), b"the last"),
+    (b"buffer", lambda s: s.write(), b""),
+    (b"a longer buffer", lambda s: s.write(), b""),
+    (b"", lambda s: s.flush(), b""),
+    (b"", lambda s: s.trim(5), b""),
+    (b"", lambda s: s.trim(2**64 - 1), b""),
+    (b"", lambda s: s.resize(2**63 + 7), b""),
+    (b"", lambda s: s.resize(0), b""),
+)
+
+
+def client_calls(s):
+    """Each call with its replies: good, an error, faulty and cut."""
+    for slice_, call, data in CALLS:
+
+        def begin():
+            connect(s, 16, 517, 8)
+            s.lend_slice(slice_)
+            call(s)
+            s.ask()
+
+        s.pump_all(begin, reply(0, data))
+        s.pump_all(begin, reply(0, data) + b"rest", ((10**6, 65536), (19, 3)))
+        for error in (1, 38, 2**32 - 1):
+            s.pump_all(begin, reply(error, data))
+        for faulty in (
+            reply(0, data, signature=0x67446699),
+            reply(0, data, signature=0x25609513),
+            reply(5, data, signature=0, handle=1),
+            reply(0, data, handle=1),
+            reply(5, data, handle=2**63),
+            reply(5, data, handle=2**32),
+        ):
+            s.pump_all(begin, faulty, ((10**6, 65536), (1, 65536)))
+        for k in range(8):
+            for faulty in (reply(0, data, signature=0x67446698 ^ 1 << 4 * k), reply(0, data, handle=128 << 8 * k)):
+                begin()
+                s.drive(100, faulty)
+        # cut after every byte, in one piece and in single bytes, then while output is owed
+        whole = reply(0, data)
+        for k in range(len(whole)):
+            for cut in (len(whole), 1):
+                begin()
+                s.pump(whole[:k], cut, 100)
+                s.hang_up()
+                s.show_slice()
+                s.ask()
+                s.drive(100, whole[k:])
+        for room in range(0, 44, 3):
+            begin()
+            s.drive(room, whole)
+            s.hang_up()
+            s.drive(100, whole)
+
+
+def client_positions(s):
+    """Seeks, transfers, and what moves the position and the size."""
+    # P11
+    connect(s, 8, 5, 5)
+    assert s.seek(1, -5) == ("ok", 0)
+    s.seek(0, 5)
+    assert s.seek(1, -6) == ("no", 48)
+    s.ask()
+    # P12
+    s.seek(0, 2**63)
+    assert s.seek(1, -(2**63)) == ("no", 48)
+    for position in (0, 1, 8, 2**63 - 1, 2**63, 2**64 - 1):
+        s.seek(0, position)
+        for offset in (0, 1, -1, 2**63 - 1, -(2**63 - 1), -(2**63), 2**63 - 2):
+            s.seek(1, offset)
+            s.ask()
+            s.seek(0, position)
+    for size in (0, 8, 2**63 - 1, 2**63, 2**64 - 1):
+        connect(s, size)
+        for offset in (0, 1, -1, -8, -9, 2**63 - 1, -(2**63 - 1), -(2**63)):
+            s.seek(2, offset)
+            s.ask()
+    # n = 0, n limited by the size, position past the size
+    for size in (0, 8):
+        for position in (0, 1, 7, 8, 9, 2**64 - 1):
+            for slice_ in (b"", b"1", b"12345678", b"123456789"):
+                connect(s, size, 5, position)
+                for call in (s.read, s.write):
+                    s.lend_slice(slice_)
+                    word, _ = call()
+                    s.ask()
+                    if word == "on":
+                        s.drive(100, reply(0, b"abcdefgh"))
+                        s.drive(100, b"unasked")
+                        s.show_slice()
+                        s.ask()
+                        s.seek(0, position)
+                s.lend_slice(b"")
+                s.trim(len(slice_))
+                s.drive(100, reply())
+                s.ask()
+    # the ends of the numbers
+    connect(s, 2**64 - 1, 5, 3)
+    for length in (2**32 - 2, 2**32 - 1, 2**32, 2**64 - 1):
+        s.trim(length)
+        s.drive(100, reply(38))
+    s.seek(2, -2)
+    s.trim(5)
+    s.drive(100, reply())
+    s.lend_slice(b"12345")
+    s.read()
+    s.drive(100, reply(0, b"xyz"))
+    s.show_slice()
+    s.ask()
+    s.read()
+    # a failed write moves nothing, and the next call finds the session ready
+    connect(s, 16, 3, 4)
+    s.lend_slice(b"write")
+    for error in (1, 0):
+        s.write()
+        s.drive(100, reply(error))
+        s.ask()
+    # resize: the end, the transfers and the position past the size follow it
+    connect(s, 16, 517, 10)
+    for size in (12, 10, 4, 2**64 - 1):
+        s.lend_slice(b"")
+        s.resize(size)
+        s.ask()
+        s.drive(100, reply(size % 3))
+        s.ask()
+        s.lend_slice(b"12345")
+        s.write()
+        s.drive(100, reply(5))
+        s.seek(2, -2)
+        s.seek(0, 10)
+
+
+def client_changes(s):
+    """What is sent are the bytes lent in the giving step; a read keeps what was moved."""
+    connect(s, 16)
+    s.lend_slice(b"abcdef")
+    s.write()
+    s.drive(30)
+    s.lend_slice(b"ABCDEF")
+    s.drive(2)
+    s.lend_slice(b"uvwxyz")
+    s.drive(100, reply())
+    s.lend_slice(b"abcdef")
+    s.read()
+    s.drive(100, reply(0, b"12"))
+    s.show_slice()
+    s.lend_slice(b"ABCDEF")
+    s.drive(0, b"34")
+    s.show_slice()
+    s.drive(0, b"56789")
+    s.show_slice()
+    s.ask()
+    # the data of a read in every cut of two pieces
+    for k in range(7):
+        connect(s, 6)
+        s.lend_slice(b"--------")
+        s.read()
+        s.drive(100, reply(0, b"stored"[:k]))
+        s.show_slice()
+        s.drive(100, b"stored"[k:])
+        s.show_slice()
+
+
+def client_large(s):
+    """A write and a read of 64 KiB, in large pieces."""
+    connect(s, 2**40)
+    s.lend_slice(bytes(k * 11 % 253 for k in range(65536)))
+    s.write()
+    for room in (30000, 0, 30000, 262144):
+        s.drive(room, reply())
+    data = reply(0, bytes(k * 7 % 251 for k in range(65536)))
+    s.read()
+    s.drive(28)
+    for k in range(0, len(data), 40000):
+        s.drive(262144, data[k : k + 40000])
+    s.show_slice()
+    s.ask()
+    s.hang_up()
+
+
 def example(s):
     """TRACE.md's own."""
     s.fresh()
@@ -719,11 +1318,16 @@ def build():
     example(s)
     for part in (handshakes, long_options, transmissions, large, rooms, ends_of_input, cut_writes, bad_tables, changing_tables, short_images, headers):
         part(s)
+    for part in (client_handshakes, client_cut_handshakes, client_refused, client_calls, client_positions, client_changes, client_large):
+        part(s)
     s.bad(b"s" + struct.pack(">II", 4, 262145))
     for number in range(13):
         assert ("end", number) in s.seen, number
-    for number in (13, 20, 21, 22, 23, 24, 25, 26, 28):
+    for number in (40, 41, 42, 43, 45, 46, 50):
+        assert ("end", number) in s.seen, number
+    for number in (13, 20, 21, 22, 23, 24, 25, 26, 28, 44, 48, 49, 51, 52):
         assert ("no", number) in s.seen, number
+    assert ("fail", 1) in s.seen  # 47
     return s
 
 

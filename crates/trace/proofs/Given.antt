@@ -1,5 +1,6 @@
 -- What is given lies in the room.
---   given-within   a step's output, whether the step is refused or not
+--   given-within   a server step's output, whether the step is refused or not
+--   asked-within   a client step's
 --   header-within  the old-style header, where it is written
 use Prim.Native.Nat.{ℕ, zero, suc, _≤_}
 use mathlib.Core.Path.{_≡_, refl, ap}
@@ -13,6 +14,10 @@ use Rattle.server.specs.Ranges.{refusal}
 use Rattle.server.specs.Contract.{Serves, Heads}
 use Rattle.server.specs.declared.state.Server.{Server}
 use Rattle.server.specs.declared.Stepped.{Stepped}
+use Rattle.client.specs.Ranges as client
+use Rattle.client.specs.Contract.{Drives}
+use Rattle.client.specs.declared.state.Client.{Client}
+use Rattle.client.specs.declared.Stepped.{Stepped as Driven}
 use Rattle.server.specs.declared.oldstyle.HeaderAnswer.{HeaderAnswer}
 use Rattle.server.specs.declared.oldstyle.HeaderAnswer.the-variants.{Written}
 
@@ -25,6 +30,16 @@ module _ {s : Server} {t m input room : List ℕ} {r : Stepped} {m′ room′ : 
 
   pub given-within : r .given ≤ length room
   given-within = by-refusal (refusal t (length m) s) refl
+
+module _ {s : Client} {m input room : List ℕ} {r : Driven} {m′ room′ : List ℕ} (driven : Drives s m input room r m′ room′) where
+  by-number : (n : ℕ) → client.refusal (length m) s ≡ n → r .given ≤ length room
+  by-number zero e = driven .accepts e .steps .goes .within-room
+  by-number (suc n) e =
+      let k = driven .refuses (λ z. omega (arith, z, e)) in
+      rw (ap (λ (x : Driven). x .given) (k .result)) (omega arith)
+
+  pub asked-within : r .given ≤ length room
+  asked-within = by-number (client.refusal (length m) s) refl
 
 module _ {room : List ℕ} {size flags : ℕ} {r : HeaderAnswer} {room′ : List ℕ} (heads : Heads room size flags r room′) (w : r ≡ Written) where
   by-test : (t : Bool) → ltb (length room) 152 ≡ t → 152 ≤ length room

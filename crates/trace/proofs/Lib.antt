@@ -1,3 +1,4 @@
 pub mod Hex
 pub mod Marked
 pub mod Given
+pub mod Twos

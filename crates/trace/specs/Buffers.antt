@@ -1,6 +1,7 @@
 -- How much of a buffer is in use.
 --   Full      a buffer is as long as the longest payload
---   Within    what a record or a host holds lies in buffers of so many bytes
+--   WholeIn   a record's payload lies in a buffer of so many bytes
+--   Lent      what a host lends lies in full buffers
 use Prim.Native.Nat.{ℕ, _≤_}
 use mathlib.Core.Path.{_≡_}
 use mathlib.Core.List.{List}
@@ -20,3 +21,4 @@ WholeIn n Over = Unit {0}
 pub record Lent (h : Host) : Type 0 where
   pub table : h .table ≤ 262144
   pub image : h .image ≤ 262144
+  pub slice : h .slice ≤ 262144

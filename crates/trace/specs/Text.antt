@@ -1,17 +1,32 @@
 -- What a line shows.
 --   hexOf      bytes as two lowercase digits each
+--   twos       the signed number that 64 bits stand for, in two's complement
 --   lineOf     what an outcome of the server's says in a line
+--   calledOf   what an outcome of the client's says
+--   resizing   whether the open call is a resize, whose line shows the client's size
+--   sizeOf     that size
 --   unchanged  whether every byte of a room is still AA
-use Prim.Native.Nat.{ℕ, _/_, _%_}
-use mathlib.Core.Bool.{Bool, true}
+use Prim.Native.Nat.{ℕ, _-_, _/_, _%_, _^_}
+use mathlib.Core.Bool.{Bool, true, false}
 use mathlib.Core.List.{List, [], _∷_}
-use lib.Dec.{eqb}
-use Rattle.machine.specs.Choice.{both}
+use lib.Dec.{eqb, ltb}
+use lib.IntN.{ℤ, pos, negsuc}
+use Rattle.machine.specs.Choice.{both, pick}
 use Rattle.io.specs.Digits.{glyph}
 use Rattle.server.specs.declared.Outcome.{Outcome}
 use Rattle.server.specs.declared.Outcome.the-variants as outcome
+use Rattle.client.specs.declared.state.Value.{Value}
+use Rattle.client.specs.declared.state.Value.the-variants.{Opened, Bytes, Position, Nothing}
+use Rattle.client.specs.declared.state.Call.{Call}
+use Rattle.client.specs.declared.state.Call.the-variants.{Read, Write, Flush, Trim, Resize}
+use Rattle.client.specs.declared.state.Phase.{Phase}
+use Rattle.client.specs.declared.state.Phase.the-variants.{Blank, Shaking, Ready, Calling, Closed, Over}
+use Rattle.client.specs.declared.state.Outcome.{Outcome as CallOutcome}
+use Rattle.client.specs.declared.state.Outcome.the-variants as call
+use Rattle.client.specs.declared.Info.{Info}
+use Rattle.client.specs.declared.Info.the-variants.{Known, Unknown}
 use Rattle.trace.specs.declared.print.Answer.{Answer}
-use Rattle.trace.specs.declared.print.Answer.the-variants.{On, End, No}
+use Rattle.trace.specs.declared.print.Answer.the-variants.{On, Done, Fail, End, No}
 
 unfoldable pub hexOf : List ℕ → List ℕ
 hexOf [] = []
@@ -21,6 +36,43 @@ abbrev pub lineOf : Outcome → Answer
 lineOf outcome.GoingOn = On
 lineOf (outcome.Ended n) = End n
 lineOf (outcome.Refused n) = No n
+
+-- `none` stands where a call gives no value
+abbrev pub valueShown : ℕ → Value → ℕ
+valueShown none (Opened size f) = size
+valueShown none (Bytes n) = n
+valueShown none (Position p) = p
+valueShown none Nothing = none
+
+abbrev pub calledOf : ℕ → CallOutcome → Answer
+calledOf none call.Open = On
+calledOf none (call.Succeeded v) = Done (valueShown none v)
+calledOf none (call.Failed e) = Fail e
+calledOf none (call.Ended n) = End n
+calledOf none (call.Refused n) = No n
+
+abbrev pub isResize : Call → Bool
+isResize (Read n len) = false
+isResize (Write n len) = false
+isResize Flush = false
+isResize (Trim n) = false
+isResize (Resize size) = true
+
+abbrev pub resizing : Phase → Bool
+resizing Blank = false
+resizing (Shaking n h) = false
+resizing (Ready d) = false
+resizing (Calling d c p) = isResize c
+resizing (Closed o d) = false
+resizing (Over n) = false
+
+abbrev pub sizeOf : Info → ℕ
+sizeOf (Known d) = d .size
+sizeOf Unknown = 0
+
+-- `negsuc n` is -(n + 1)
+abbrev pub twos : ℕ → ℤ
+twos x = pick (ltb x (2 ^ 63)) (pos x) (negsuc (2 ^ 64 - 1 - x))
 
 abbrev pub unchanged : List ℕ → Bool
 unchanged [] = true

@@ -12,6 +12,10 @@ ghost use Rattle.trace.specs.Text.{hexOf};
 pub enum Answer {
     // without a number: the session goes on, or the call is open
     On,
+    // a client's handshake or call closed well, with its value
+    Done(u64),
+    // 01's number 47, with the error of the reply
+    Fail(u32),
     End(u8),
     No(u8),
 }
@@ -21,9 +25,18 @@ pub fn text(s: &[u8]) {
 }
 
 // A space and the number.
-fn number(n: u64) {
+pub fn number(n: u64) {
     text(b" ");
     io::print_decimal(STDOUT_FILENO, n);
+}
+
+// A space, and 1 or 0.
+pub fn bit(b: bool) {
+    if b {
+        text(b" 1");
+    } else {
+        text(b" 0");
+    }
 }
 
 fn digit(d: u8) -> u8
@@ -97,6 +110,14 @@ pub fn line(a: Answer, taken: usize, given: &[u8], changed: bool) {
     match a {
         Answer::On => {
             text(b"on");
+            moved(taken, given);
+        }
+        Answer::Done(n) => {
+            with_number(b"ok", n);
+            moved(taken, given);
+        }
+        Answer::Fail(n) => {
+            with_number(b"fail", n as u64);
             moved(taken, given);
         }
         Answer::End(n) => {

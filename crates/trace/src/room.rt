@@ -1,6 +1,7 @@
 // The room of a step: AA before the call, so that what the call wrote shows.
 use crate::print;
 use crate::print::Answer;
+use wire::fields;
 ghost use mathlib.Core.Path.{_≡_};
 ghost use Prim.Native.Nat.{_≤_};
 ghost use lib.ListN.{length, replicate};
@@ -28,6 +29,19 @@ pub fn unchanged(room: &[u8]) -> bool
         i += 1;
     }
     true
+}
+
+// Whether what is lent is as it was, where it has to be: after a refusal.
+pub fn kept(a: Answer, lent: &[u8], before: &[u8]) -> bool
+    requires { ⌜ length (now lent) ≡ length (now before) ⌝ }
+{
+    match a {
+        Answer::On => true,
+        Answer::Done(_) => true,
+        Answer::Fail(_) => true,
+        Answer::End(_) => true,
+        Answer::No(_) => fields::same(lent, before),
+    }
 }
 
 // The line of a call that was lent this room. `kept`: what else had to stay as it was did.

@@ -1,4 +1,5 @@
 // The server's commands.
+use crate::host;
 use crate::host::Host;
 use crate::host::Next;
 use crate::print;
@@ -26,17 +27,6 @@ fn answer(o: Outcome) -> Answer
     }
 }
 
-// Whether the image is as it was, where it has to be: after a refusal.
-fn kept(a: Answer, image: &[u8], before: &[u8]) -> bool
-    requires { ⌜ length (now image) ≡ length (now before) ⌝ }
-{
-    match a {
-        Answer::On => true,
-        Answer::End(_) => true,
-        Answer::No(_) => fields::same(image, before),
-    }
-}
-
 // A step with this input and this room, and its line.
 fn step(
     s: Server,
@@ -53,7 +43,7 @@ fn step(
     let r = s.step(table, image, input, room);
     let o = r.outcome;
     let a = answer(o);
-    room::show(a, r.taken, r.given, room, kept(a, image, before));
+    room::show(a, r.taken, r.given, room, room::kept(a, image, before));
     r.state
 }
 
@@ -76,29 +66,22 @@ fn oldstyle(room: &mut [u8], size: u64, flags: u32) {
 
 // ---- the commands
 
-// Lends the payload from now on: it is copied to the front of the buffer.
-fn lend(payload: &[u8], buffer: &mut [u8]) -> usize
-    requires { ⌜ length (now payload) ≤ length (now buffer) ⌝ }
-    ensures { λ r. ⌜ r ≡ length (now (payload .entry)) ⌝ }
-{
-    let n = payload.len();
-    copy::copy(payload, &mut buffer[0..n]);
-    n
-}
-
 // `T`
 fn lend_table(h: Host, payload: &[u8], table: &mut [u8]) -> Next
     requires { ⌜ Lent h × Full (now table) × (length (now payload) ≤ 262144) ⌝ }
     ensures { λ r. ⌜ Lent (r .host) ⌝ }
 {
     let server = h.server;
-    let n = lend(payload, table);
-    let host = Host {
+    let client = h.client;
+    let n = host::lend(payload, table);
+    let next = Host {
         server,
+        client,
         table: n,
         image: h.image,
+        slice: h.slice,
     };
-    host.goes_on()
+    next.goes_on()
 }
 
 // `I`
@@ -107,13 +90,16 @@ fn lend_image(h: Host, payload: &[u8], image: &mut [u8]) -> Next
     ensures { λ r. ⌜ Lent (r .host) ⌝ }
 {
     let server = h.server;
-    let n = lend(payload, image);
-    let host = Host {
+    let client = h.client;
+    let n = host::lend(payload, image);
+    let next = Host {
         server,
+        client,
         table: h.table,
         image: n,
+        slice: h.slice,
     };
-    host.goes_on()
+    next.goes_on()
 }
 
 // `s`: the room's size (4), and the input.
@@ -146,7 +132,7 @@ fn take_step(
         &payload[4..],
         &mut room[0..n],
     );
-    h.with(server).goes_on()
+    h.with_server(server).goes_on()
 }
 
 // `o`: the room's size (4), a size (8), flags (4).
@@ -180,10 +166,10 @@ fn take_bare(h: Host, command: u8, image: &[u8]) -> Next
     ensures { λ r. ⌜ Lent (r .host) ⌝ }
 {
     match command {
-        b'S' => h.with(Server::new()).goes_on(),
+        b'S' => h.with_server(Server::new()).goes_on(),
         b'e' => {
             let s = h.server;
-            h.with(end(s)).goes_on()
+            h.with_server(end(s)).goes_on()
         }
         b'i' => {
             let m = h.image;
@@ -194,7 +180,7 @@ fn take_bare(h: Host, command: u8, image: &[u8]) -> Next
     }
 }
 
-// Does what a record says.
+// Does what a record says that is for the server.
 pub fn obey(
     h: Host,
     command: u8,

@@ -20,10 +20,13 @@ slice-aggregate-obey-all-4 c = search needs
 slice-aggregate-obey-all-5 : tie.Need-slice-aggregate-obey-all-5
 slice-aggregate-obey-all-5 c = search needs
 
+slice-aggregate-obey-all-6 : tie.Need-slice-aggregate-obey-all-6
+slice-aggregate-obey-all-6 c = search needs
+
 obey-all-requires : tie.Need-obey-all-requires
 obey-all-requires c κs =
     let full = length-replicate {A = ℕ} 262144 0 in
-    (full, full, full, full)
+    (full, full, full, full, full)
 
 returns : tie.Need-returns
 returns c = search needs
@@ -37,5 +40,6 @@ main-spec =
     slice-aggregate-obey-all-3
     slice-aggregate-obey-all-4
     slice-aggregate-obey-all-5
+    slice-aggregate-obey-all-6
     obey-all-requires
     returns)

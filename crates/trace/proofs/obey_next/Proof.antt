@@ -24,9 +24,9 @@ part-obey-end c =
 
 obey-requires : tie.Need-obey-requires
 obey-requires c κs =
-    let whole = rw (c .before .before .before .before .before .before .before .command .given .1) at (c .before .before .before .before .before .before .before .before .before .before .before .next .ensures) in
-    let p = c .before .before .before .before .before .before .before .before .before .before .before .before .before .before .before .before .before .before .pre in
-    (p .0, simp length-take (omega arith), p .2, p .3, p .4)
+    let whole = rw (c .before .before .before .before .before .before .before .before .command .given .1) at (c .before .before .before .before .before .before .before .before .before .before .before .before .next .ensures) in
+    let p = c .before .before .before .before .before .before .before .before .before .before .before .before .before .before .before .before .before .before .before .before .pre in
+    (p .0, simp length-take (omega arith), p .2, p .3, p .4, p .5)
 
 enum-told : tie.Need-enum-told
 enum-told c = search needs
@@ -55,17 +55,20 @@ same-length-4 c = search needs
 same-length-5 : tie.Need-same-length-5
 same-length-5 c = search needs
 
+same-length-6 : tie.Need-same-length-6
+same-length-6 c = search needs
+
 returns : tie.Need-returns
 returns c = search needs
 
-same-length-6 : tie.Need-same-length-6
-same-length-6 c = search needs
+same-length-7 : tie.Need-same-length-7
+same-length-7 c = search needs
 
 returns-2 : tie.Need-returns-2
 returns-2 c = search needs
 
-same-length-7 : tie.Need-same-length-7
-same-length-7 c = search needs
+same-length-8 : tie.Need-same-length-8
+same-length-8 c = search needs
 
 returns-3 : tie.Need-returns-3
 returns-3 c = search needs
@@ -89,8 +92,9 @@ obey-next-spec =
     same-length-3
     same-length-4
     same-length-5
-    returns
     same-length-6
-    returns-2
+    returns
     same-length-7
+    returns-2
+    same-length-8
     returns-3)
