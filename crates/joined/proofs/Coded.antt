@@ -2,7 +2,7 @@
 --   Fit         neither side would refuse a step
 --   stands      the machines that the code stands for
 --   fit-step, fit-call, fit-serve   steps and calls keep it
---   runs-exec   a run is an execution, and stays fit
+--   move-exec, runs-exec   a move is an execution, and so is a run; both stay fit
 use Prim.Native.Nat.{ℕ}
 use mathlib.Core.Path.{_≡_}
 use mathlib.Core.List.{List, _++_}
@@ -29,7 +29,7 @@ use Rattle.client.specs.declared.Stepped as driven
 use Rattle.client.proofs.Tidy.{viewed}
 use Rattle.client.proofs.Result.{goes-on, in-ranges}
 use Rattle.joined.specs.Disk.{Call, read, write, seek, flush, trim, Result}
-use Rattle.joined.specs.Code.{Code, joint, seekFrom, calls, buffer, collected, Ready, Runs, stop, client-step, server-step, call}
+use Rattle.joined.specs.Code.{Code, joint, seekFrom, calls, buffer, collected, Ready, Move, client-step, server-step, call, Runs, stop, move}
 use Rattle.joined.proofs.Driver.{Driver, settle, drive}
 use Rattle.joined.proofs.Driving.{followed, told, lent-after, already}
 
@@ -84,19 +84,20 @@ pub stepped : (ks : List Call) (rs : List Result) (r : driven.Stepped) (x : clie
 stepped ks rs r x m p q = rw (p, q, viewed (after x), told ks rs x m)
 
 module _ {t : List ℕ} {cu cd : ℕ} where
-  pub runs-exec : {b : Bytes} {x z : Code} → Runs t cu cd b x z → Fits t x → Exec drive (turn t) cu cd b (stands x) (stands z) × Fits t z
-  runs-exec stop f = (done, f)
-  runs-exec (client-step {c = c} {m = m} {ks = ks} {rs = rs} {s = s} {img = img} {u = u} {d = d} n room r m′ room′ h p q) f =
+  pub move-exec : {b : Bytes} {x z : Code} → Move t cu cd b x z → Fits t x → Exec drive (turn t) cu cd b (stands x) (stands z) × Fits t z
+  move-exec (client-step {c = c} {m = m} {ks = ks} {rs = rs} {s = s} {img = img} {u = u} {d = d} n room r m′ room′ h p) f =
       let a = p .accepts (f .client-fits) in
-      let i = runs-exec q (fit-step p f) in
       let g : Exec drive (turn t) cu cd (client-bytes (take (r .taken) d) (take (r .given) room′)) (sys (settle (on (view c) m) ks rs) (on (viewed-server s) img) u d)
       (sys (settle (on (a .place) m′) ks rs) (on (viewed-server s) img) (u ++ take (r .given) room′) (drop (r .taken) d)) =
       client-goes n (follows-goes (λ x. settle x ks rs) (followed ks rs) (a .steps .goes)) h in
-      (exec-then (rw (stepped ks rs r (a .place) m′ (a .state) (a .outcome)) at g) (i .0), i .1)
-  runs-exec (server-step n room r img′ room′ h p q) f =
-      let i = runs-exec q (fit-serve p f) in
-      (exec-then (server-goes n (p .accepts (f .server-fits) .steps .goes) h) (i .0), i .1)
-  runs-exec (call {c = c} {m = m} {ks = ks} {rs = rs} k r y e q) f =
-      let g = fit-call k y f in
-      let i = runs-exec q (rw e g) in
-      (rw (e, already k c (y .device) (y .rests) (in-ranges (f .reached)) m ks rs) at (i .0), i .1)
+      (rw (stepped ks rs r (a .place) m′ (a .state) (a .outcome)) at g, fit-step p f)
+  move-exec (server-step n room r img′ room′ h p) f = (server-goes n (p .accepts (f .server-fits) .steps .goes) h, fit-serve p f)
+  move-exec (call {c = c} {m = m} {ks = ks} {rs = rs} k r y e) f =
+      (rw (e, already k c (y .device) (y .rests) (in-ranges (f .reached)) m ks rs) done, rw e (fit-call k y f))
+
+  pub runs-exec : {b : Bytes} {x z : Code} → Runs t cu cd b x z → Fits t x → Exec drive (turn t) cu cd b (stands x) (stands z) × Fits t z
+  runs-exec stop f = (done, f)
+  runs-exec (move p q) f =
+      let e = move-exec p f in
+      let i = runs-exec q (e .1) in
+      (exec-then (e .0) (i .0), i .1)

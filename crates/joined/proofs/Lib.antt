@@ -1,3 +1,6 @@
+pub mod TakenOff
+pub mod Within
+pub mod Wired
 pub mod Driver
 pub mod Driving
 pub mod Coded

@@ -32,7 +32,7 @@ use Rattle.client.specs.declared.state.Client.{Client}
 use Rattle.joined.specs.Disk.{Disk, Call, Result, results, final, placed}
 use Rattle.joined.specs.Carried.{upAll, downAll}
 use Rattle.joined.specs.Said.{saidUp, saidDown}
-use Rattle.joined.specs.Code.{joint, Ready, Runs, Holds, begin, export, disk, opening, ClientCarries, ServerCarries}
+use Rattle.joined.specs.Code.{joint, Ready, Sized, Runs, Holds, begin, export, disk, opening, ClientCarries, ServerCarries}
 use Rattle.joined.specs.Host.{Rounds}
 use Rattle.joined.proofs.Driver.{Driver, over, settle, drive}
 use Rattle.joined.proofs.Coded.{stands}
@@ -56,11 +56,11 @@ module _ {t img name : List ℕ} {k : ℕ} (holds : Holds t img name k) (ks : Li
   abbrev image : List ℕ
   image = placed img (export t k .start) (final plain ks .bytes)
 
-  module _ {cu cd : ℕ} (hu : 0 < cu) (hd : 0 < cd) where
+  module _ {cu cd : ℕ} (wires : Sized cu cd) where
     module _ {b : Bytes} {c : Client} {m : List ℕ} {rs : List Result} {s : Server} {img′ u d : List ℕ}
         (run : Runs t cu cd b (begin name ks img) (joint c m [] rs s img′ u d)) (closed : Ready c) where
       at-end : (stands (joint c m [] rs s img′ u d) ≡ sys (over all) (end holds ks) [] []) × (b ≡ talk-bytes (saidUp name plain ks) (saidDown (export t k) plain ks))
-      at-end = talk-over hu hd (talk holds ks) refl refl (by-take all) (executed holds ks run .0) (rw (closed .rests))
+      at-end = talk-over (wires .up) (wires .down) (talk holds ks) refl refl (by-take all) (executed holds ks run .0) (rw (closed .rests))
 
       -- Every run that closes the handshake and all calls gives the results of the plain disk, and its bytes in the window; all other bytes
       -- of the image are as they were.
@@ -100,24 +100,24 @@ module _ {t img name : List ℕ} {k : ℕ} (holds : Holds t img name k) (ks : Li
       -- As soon as a call is closed its result is the plain disk's.
       pub as-soon-as : rs ≡ take (length rs) all
       as-soon-as =
-          let w = talk-midway hu hd (talk holds ks) refl refl (executed holds ks run .0) in
+          let w = talk-midway (wires .up) (wires .down) (talk holds ks) refl refl (executed holds ks run .0) in
           let g = grows (on (view c) m) ls rs (w .after .of-client) in
           sym (ap (take (length rs)) (g .parts) ∙ take-append-seam rs (g .more))
 
       -- And it has its result: where none is open, each call is still to come, or its result is there; and so is that of the handshake.
       pub one-for-each : Ready c → length rs + length ls ≡ suc (length ks)
       one-for-each i =
-          let w = talk-midway hu hd (talk holds ks) refl refl (executed holds ks run .0) in
+          let w = talk-midway (wires .up) (wires .down) (talk holds ks) refl refl (executed holds ks run .0) in
           let h : weight (the-client here) ≡ length rs + length ls = ap (λ (x : client.State). weight (settle (on x m) ls rs)) (i .rests) ∙ next-weight ls (i .device) rs in
           omega (arith, h, never-more (w .before .of-client), never-more (w .after .of-client), length-results ks plain)
 
       -- No run carries more bytes than the formula has, each onto a wire and off it.
       pub bounded : total b ≤ 2 * (upAll name plain ks + downAll plain ks)
-      bounded = rw (length-up holds ks, length-down holds ks) at (talk-bounded hu hd (talk holds ks) refl refl (executed holds ks run .0))
+      bounded = rw (length-up holds ks, length-down holds ks) at (talk-bounded (wires .up) (wires .down) (talk holds ks) refl refl (executed holds ks run .0))
 
       module _ (unclosed : Ready c → ⊥) where
         pub moves : (w : Who) × (a : Bytes) × (y : Sys Driver (On State)) × Move drive (serve t) cu cd w a here y
-        moves = by (talk-goes-on hu hd (talk holds ks) refl refl (executed holds ks run .0))
+        moves = by (talk-goes-on (wires .up) (wires .down) (talk holds ks) refl refl (executed holds ks run .0))
           where
             by : (here ≡ sys (over all) (end holds ks) [] []) ⊎ ((w : Who) × (a : Bytes) × (y : Sys Driver (On State)) × Move drive (serve t) cu cd w a here y)
                 → (w : Who) × (a : Bytes) × (y : Sys Driver (On State)) × Move drive (serve t) cu cd w a here y
@@ -139,19 +139,19 @@ module _ {t img name : List ℕ} {k : ℕ} (holds : Holds t img name k) (ks : Li
         let w = last-round r in
         let i = rounds (w .1) (fit holds ks) in
         let j = rounds r (fit holds ks) in
-        let at-last = talk-fair hu hd (talk holds ks) refl refl bound (rw (starts holds ks) at (i .0)) in
-        let at-end = talk-fair hu hd (talk holds ks) refl refl (omega arith) (rw (starts holds ks) at (j .0)) in
+        let at-last = talk-fair (wires .up) (wires .down) (talk holds ks) refl refl bound (rw (starts holds ks) at (i .0)) in
+        let at-end = talk-fair (wires .up) (wires .down) (talk holds ks) refl refl (omega arith) (rw (starts holds ks) at (j .0)) in
         let made : ls ≡ [] = all-made all (w .4) (i .1) (rw at-last (stuck refl refl)) (ap the-client at-last) in
         let ready = is-ready ls rs all (j .1) (ap the-client at-end) in
         let o = ended holds ks c m rs s img′ u d ready (rw made at at-end) in
         (ready, made, o .0, o .1)
 
   -- Wires, cuttings and orders of moves do not choose the outcome.
-  pub same-outcome : {cu cd ku kd : ℕ} → 0 < cu → 0 < cd → 0 < ku → 0 < kd
+  pub same-outcome : {cu cd ku kd : ℕ} → Sized cu cd → Sized ku kd
       → {b b′ : Bytes} {c c′ : Client} {m m′ : List ℕ} {rs rs′ : List Result} {s s′ : Server} {i j u u′ d d′ : List ℕ}
       → Runs t cu cd b (begin name ks img) (joint c m [] rs s i u d) → Ready c
       → Runs t ku kd b′ (begin name ks img) (joint c′ m′ [] rs′ s′ j u′ d′) → Ready c′ → (rs ≡ rs′) × (i ≡ j)
-  same-outcome hu hd gu gd p x q y =
-      let a = plain-disk hu hd p x in
-      let b = plain-disk gu gd q y in
+  same-outcome w v p x q y =
+      let a = plain-disk w p x in
+      let b = plain-disk v q y in
       (a .0 ∙ sym (b .0), a .1 ∙ sym (b .1))

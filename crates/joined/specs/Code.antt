@@ -4,7 +4,10 @@
 --   calls k c        what the contract of the call k says of the client c
 --   collected        the results so far, with that of a call or of the handshake that has just been closed
 --   Ready c          the handshake and the call before are closed
---   Runs             steps and calls in any order, with the bytes that the steps took and gave
+--   clientAt, serverAt, callAt   where a step of the client, a step of the server, a call leads
+--   Sized            each wire has room for a byte or more
+--   Move             one step or call, with the bytes that it took and gave
+--   Runs             moves in any order
 --   Holds            the table is sound for the image, and its record k is the first of that name
 --   begin            the start: a fresh client whose handshake was called, a fresh server, empty wires
 --   disk, opening    the plain disk that the record stands for, and what the handshake answers
@@ -70,28 +73,44 @@ collected (Failed error) buf rs = rs ++ resultOf (Failed error) buf ∷ []
 collected (Ended n) buf rs = rs
 collected (Refused why) buf rs = rs ++ resultOf (Refused why) buf ∷ []
 
--- ---- runs
+-- ---- moves and runs
 pub record Ready (c : Client) : Type 0 where
   pub device : Device
   pub rests : view c ≡ client.Ready device
 
+-- A step of the client on a first part of its wire in: the bytes given are put on its wire out, and those taken are off the wire in.
+abbrev pub clientAt : List Call → List Result → Server → List ℕ → List ℕ → List ℕ → driven.Stepped → List ℕ → List ℕ → Code
+clientAt ks rs s img u d r m′ room′ = joint (r .state) m′ ks (collected (r .outcome) m′ rs) s img (u ++ take (r .given) room′) (drop (r .taken) d)
+
+-- the server likewise
+abbrev pub serverAt : Client → List ℕ → List Call → List Result → List ℕ → List ℕ → served.Stepped → List ℕ → List ℕ → Code
+serverAt c m ks rs u d r img′ room′ = joint c m ks rs (r .state) img′ (drop (r .taken) u) (d ++ take (r .given) room′)
+
+-- the call k is made
+abbrev pub callAt : List Call → List Result → Server → List ℕ → List ℕ → List ℕ → Call → Called → Code
+callAt ks rs s img u d k r = joint (r .state) (buffer k) ks (collected (r .outcome) (buffer k) rs) s img u d
+
+-- "two faithful wires with room for a byte or more"
+pub record Sized (cu cd : ℕ) : Type 0 where
+  pub up : 0 < cu
+  pub down : 0 < cd
+
+pub data Move (t : List ℕ) (cu cd : ℕ) : Bytes → Code → Code → Type 0 where
+  -- the client is stepped on a first part of its wire in, with a room that its wire out has space for
+  client-step : {c : Client} {m : List ℕ} {ks : List Call} {rs : List Result} {s : Server} {img u d : List ℕ}
+      (n : ℕ) (room : List ℕ) (r : driven.Stepped) (m′ room′ : List ℕ) → length u + length room ≤ cu → Drives c m (take n d) room r m′ room′
+      → Move t cu cd (client-bytes (take (r .taken) d) (take (r .given) room′)) (joint c m ks rs s img u d) (clientAt ks rs s img u d r m′ room′)
+  -- the server likewise
+  server-step : {c : Client} {m : List ℕ} {ks : List Call} {rs : List Result} {s : Server} {img u d : List ℕ}
+      (n : ℕ) (room : List ℕ) (r : served.Stepped) (img′ room′ : List ℕ) → length d + length room ≤ cd → Serves s t img (take n u) room r img′ room′
+      → Move t cu cd (server-bytes (take (r .taken) u) (take (r .given) room′)) (joint c m ks rs s img u d) (serverAt c m ks rs u d r img′ room′)
+  -- the next call is made
+  call : {c : Client} {m : List ℕ} {ks : List Call} {rs : List Result} {s : Server} {img u d : List ℕ} (k : Call) (r : Called) → Ready c → r ≡ calls k c
+      → Move t cu cd no-bytes (joint c m (k ∷ ks) rs s img u d) (callAt ks rs s img u d k r)
+
 pub data Runs (t : List ℕ) (cu cd : ℕ) : Bytes → Code → Code → Type 0 where
   stop : {x : Code} → Runs t cu cd no-bytes x x
-  -- the client is stepped on a first part of its wire in, with a room that its wire out has space for
-  client-step : {c : Client} {m : List ℕ} {ks : List Call} {rs : List Result} {s : Server} {img u d : List ℕ} {z : Code} {b : Bytes}
-      (n : ℕ) (room : List ℕ) (r : driven.Stepped) (m′ room′ : List ℕ) → length u + length room ≤ cu → Drives c m (take n d) room r m′ room′
-      → Runs t cu cd b (joint (r .state) m′ ks (collected (r .outcome) m′ rs) s img (u ++ take (r .given) room′) (drop (r .taken) d)) z
-      → Runs t cu cd (append (client-bytes (take (r .taken) d) (take (r .given) room′)) b) (joint c m ks rs s img u d) z
-  -- the server likewise
-  server-step : {c : Client} {m : List ℕ} {ks : List Call} {rs : List Result} {s : Server} {img u d : List ℕ} {z : Code} {b : Bytes}
-      (n : ℕ) (room : List ℕ) (r : served.Stepped) (img′ room′ : List ℕ) → length d + length room ≤ cd → Serves s t img (take n u) room r img′ room′
-      → Runs t cu cd b (joint c m ks rs (r .state) img′ (drop (r .taken) u) (d ++ take (r .given) room′)) z
-      → Runs t cu cd (append (server-bytes (take (r .taken) u) (take (r .given) room′)) b) (joint c m ks rs s img u d) z
-  -- the next call is made
-  call : {c : Client} {m : List ℕ} {ks : List Call} {rs : List Result} {s : Server} {img u d : List ℕ} {z : Code} {b : Bytes}
-      (k : Call) (r : Called) → Ready c → r ≡ calls k c
-      → Runs t cu cd b (joint (r .state) (buffer k) ks (collected (r .outcome) (buffer k) rs) s img u d) z
-      → Runs t cu cd b (joint c m (k ∷ ks) rs s img u d) z
+  move : {x y z : Code} {a b : Bytes} → Move t cu cd a x y → Runs t cu cd b y z → Runs t cu cd (append a b) x z
 
 -- ---- the start
 pub record Holds (t img name : List ℕ) (k : ℕ) : Type 0 where

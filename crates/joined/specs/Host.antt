@@ -3,8 +3,8 @@
 --   Rounds   so many rounds, in each of which both are visited
 use Prim.Native.Nat.{ℕ, suc, _<_}
 use mathlib.Core.Path.{_≡_}
-use mathlib.Core.List.{List, [], _∷_, _++_}
-use lib.ListN.{take, drop}
+use mathlib.Core.List.{List, [], _∷_}
+use lib.ListN.{take}
 use Rattle.machine.specs.Rounds.{Room}
 use Rattle.server.specs.Contract.{Serves}
 use Rattle.server.specs.declared.state.Server.{Server}
@@ -14,7 +14,7 @@ use Rattle.client.specs.declared.state.Client.{Client}
 use Rattle.client.specs.declared.Called.{Called}
 use Rattle.client.specs.declared.Stepped as driven
 use Rattle.joined.specs.Disk.{Call, Result}
-use Rattle.joined.specs.Code.{Code, joint, calls, buffer, collected, Ready}
+use Rattle.joined.specs.Code.{Code, joint, calls, clientAt, serverAt, callAt, Ready}
 
 -- A visit is a step on some bytes of the wire in, if there are any, with some room where the wire out has space.
 pub data Hosts (t : List ℕ) (cu cd : ℕ) : ℕ → ℕ → Code → Code → Type 0 where
@@ -22,15 +22,15 @@ pub data Hosts (t : List ℕ) (cu cd : ℕ) : ℕ → ℕ → Code → Code → 
   client-visit : {c : Client} {m : List ℕ} {ks : List Call} {rs : List Result} {s : Server} {img u d : List ℕ} {z : Code} {i j : ℕ}
       (n : ℕ) (room : List ℕ) (r : driven.Stepped) (m′ room′ : List ℕ) → 0 < n → Room cu u room → (Ready c → ks ≡ [])
       → Drives c m (take n d) room r m′ room′
-      → Hosts t cu cd i j (joint (r .state) m′ ks (collected (r .outcome) m′ rs) s img (u ++ take (r .given) room′) (drop (r .taken) d)) z
+      → Hosts t cu cd i j (clientAt ks rs s img u d r m′ room′) z
       → Hosts t cu cd (suc i) j (joint c m ks rs s img u d) z
   server-visit : {c : Client} {m : List ℕ} {ks : List Call} {rs : List Result} {s : Server} {img u d : List ℕ} {z : Code} {i j : ℕ}
       (n : ℕ) (room : List ℕ) (r : served.Stepped) (img′ room′ : List ℕ) → 0 < n → Room cd d room → Serves s t img (take n u) room r img′ room′
-      → Hosts t cu cd i j (joint c m ks rs (r .state) img′ (drop (r .taken) u) (d ++ take (r .given) room′)) z
+      → Hosts t cu cd i j (serverAt c m ks rs u d r img′ room′) z
       → Hosts t cu cd i (suc j) (joint c m ks rs s img u d) z
   call : {c : Client} {m : List ℕ} {ks : List Call} {rs : List Result} {s : Server} {img u d : List ℕ} {z : Code} {i j : ℕ}
       (k : Call) (r : Called) → Ready c → r ≡ calls k c
-      → Hosts t cu cd i j (joint (r .state) (buffer k) ks (collected (r .outcome) (buffer k) rs) s img u d) z
+      → Hosts t cu cd i j (callAt ks rs s img u d k r) z
       → Hosts t cu cd i j (joint c m (k ∷ ks) rs s img u d) z
 
 pub data Rounds (t : List ℕ) (cu cd : ℕ) : ℕ → Code → Code → Type 0 where

@@ -3,4 +3,5 @@ pub mod Carried
 pub mod Said
 pub mod Code
 pub mod Host
+pub mod Wired
 pub mod Cases
