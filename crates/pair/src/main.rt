@@ -1,0 +1,116 @@
+// One client and one server on two wires, of several capacities and with several orders of moves. The calls' results, the image and the bytes carried
+// are written for each, and are the same.
+mod ends;
+mod print;
+mod schedule;
+mod script;
+
+use ends::After;
+use ends::Ends;
+use script::Call;
+ghost use Prim.Native.Nat.{_≤_, _<_};
+
+// Makes the call with what is lent, moves until it is closed, and writes how it went.
+fn closes(
+    e: Ends,
+    k: Call,
+    lent: &mut [u8],
+    image: &mut [u8],
+    up: &mut [u8],
+    down: &mut [u8],
+) -> Ends {
+    // version 1; start 8, size 32, flags 0, `labels`
+    let table =
+        b"\x01\x00\x17\x00\x00\x00\x00\x00\x00\x00\x08\x00\x00\x00\x00\x00\x00\x00\x20\x00labels";
+    let c = e.client;
+    let r = script::make(k, c, lent);
+    let client = r.state;
+    let outcome = r.outcome;
+    let a = After {
+        ends: e.with_client(client),
+        outcome,
+    };
+    let closed = ends::close(a, lent, table, image, up, down);
+    let o = closed.outcome;
+    print::word(k);
+    print::outcome(o);
+    print::bytes(lent);
+    print::text(b"\n");
+    closed.ends
+}
+
+// The i-th call.
+fn call(e: Ends, i: u8, image: &mut [u8], up: &mut [u8], down: &mut [u8]) -> Ends {
+    let k = script::nth(i);
+    let n = script::lent(k);
+    let mut buffer = [0u8; 40];
+    script::fill(i, &mut buffer);
+    closes(e, k, &mut buffer[0..n], image, up, down)
+}
+
+fn calls(e: Ends, image: &mut [u8], up: &mut [u8], down: &mut [u8]) -> Ends {
+    let mut ends = e;
+    let mut i = 0;
+    while i < script::CALLS {
+        ends = call(ends, i, image, up, down);
+        i += 1;
+    }
+    ends
+}
+
+fn wide(b: u8) -> u64
+    ensures { λ r. ⌜ r < 256 ⌝ }
+{
+    b as u64
+}
+
+// Adler-32
+fn checksum(bytes: &[u8]) -> u64 {
+    let mut a = 1u64;
+    let mut b = 0u64;
+    let mut i = 0;
+    while i < bytes.len() {
+        a = (a + wide(bytes[i])) % 65521;
+        b = (b + a) % 65521;
+        i += 1;
+    }
+    b * 65536 + a
+}
+
+// A run with wires of this capacity.
+fn run(capacity: usize, kind: u8)
+    requires { ⌜ capacity ≤ 4096 ⌝ }
+{
+    let mut up = [0u8; 4096];
+    let mut down = [0u8; 4096];
+    let mut image = *b"<before>ASPIRIN HEPARIN INSULIN DIGOXIN <24 bytes stand behind.>";
+    print::text(b"wires of");
+    print::number(capacity as u64);
+    print::text(b", order");
+    print::number(kind as u64);
+    print::text(b"\n");
+    let e = ends::fresh(kind);
+    let last = calls(e, &mut image, &mut up[0..capacity], &mut down[0..capacity]);
+    print::text(b"image");
+    print::bytes(&image);
+    print::number(checksum(&image));
+    print::text(b"\n");
+    print::carried(last);
+}
+
+fn orders(capacity: usize)
+    requires { ⌜ capacity ≤ 4096 ⌝ }
+{
+    let mut kind = 0;
+    while kind < 4 {
+        run(capacity, kind);
+        kind += 1;
+    }
+}
+
+fn main() {
+    orders(1);
+    orders(2);
+    orders(7);
+    orders(4096);
+}
