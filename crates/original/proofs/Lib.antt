@@ -1,0 +1,17 @@
+pub mod Reaches
+pub mod Meets
+pub mod Copies
+pub mod Headers
+pub mod Parts
+pub mod Requests
+pub mod Loop
+pub mod Lookups
+pub mod Shakes
+pub mod Theorem
+pub mod ClientMeets
+pub mod ClientCalls
+pub mod ClientMade
+pub mod ClientShakes
+pub mod ClientTheorem
+pub mod ClientThere
+pub mod Witness
