@@ -1,9 +1,13 @@
 #!/usr/bin/env python3
-"""The gate's script for the program `trace`, and the lines that it has to write.
+"""A script for the program `trace`, and the lines that it has to write.
 
-    python3 compare/trace.py stdin  > crates/trace/stdin
-    python3 compare/trace.py stdout > crates/trace/stdout
+    python3 compare/trace.py stdin
+    python3 compare/trace.py stdout
     python3 compare/trace.py count
+    python3 oracle/sample.py keep
+
+The gate's files crates/trace/stdin and stdout are the sample of the crate's answers (oracle/README.md), and these behind it; the last command
+writes them.
 
 The lines come from the models below: a server and a client that go a byte at a time, written from document 01's words
 and knowing nothing of the port. Standard library only; the same bytes at every run.
