@@ -1,4 +1,5 @@
 -- The handshake and each call alone, from the first byte to the last: what is taken, what is sent, and how it closes.
+--   owed-run        a list that is owed whole
 --   handshake-new   a new-style server, whatever its two bytes of flags
 --   handshake-old   an old-style server, and the empty name
 --   call-alone      a call and a good reply, with a read's data behind it
@@ -35,7 +36,7 @@ use Rattle.client.proofs.Runs.{each-owed, fills, length-hello, length-a
 
 -- ---- runs from their first byte to their last
 -- a list that is owed whole
-owed-run : (f : ℕ → State) (l m : List ℕ) → ((left : ℕ) → turn (on (f (suc left)) m) ≡ gives (owing l (suc left)) (on (f left) m))
+pub owed-run : (f : ℕ → State) (l m : List ℕ) → ((left : ℕ) → turn (on (f (suc left)) m) ≡ gives (owing l (suc left)) (on (f left) m))
     → (k : ℕ) → k ≡ length l → Moves turn (on (f k) m) [] l (on (f 0) m)
 owed-run f l m each k e =
     let all = sends turn (λ sent left. f left) l m (length l) (each-owed f l m each) (omega arith) (length l) 0 k 0 (length l) (omega arith) (omega arith) (omega arith) in

@@ -1,5 +1,6 @@
 -- What follows from the contracts alone.
 --   same-result    two results of one step are equal: the client, the counts, the outcome, what is lent and the room
+--   within         the counts of a step lie within what was lent, and the room is as long as it was, refused or not
 --   same-answer    so are two answers of any other public function, whose contract is an equation
 --   in-ranges      a client that was reached from a fresh one is within its ranges: none of its calls or steps answers 53
 --   idle           a step of a client that rests, with nothing open or after an end, moves nothing and changes nothing but that a result is told once
@@ -59,6 +60,18 @@ same-result {self} {m} {r = r} {r′ = r′} {m′ = m′} {m″ = m″} {room�
         let whole : _≡_ {A = Stepped} (record { state = r .state; taken = r .taken; given = r .given; outcome = r .outcome }) (record { state = r′ .state; taken = r′ .taken; given = r′ .given; outcome = r′ .outcome }) =
         rw (a .state, a .outcome, s .same-taken, s .same-given, v, ← b .state, ← b .outcome) in
         (whole, cc (s .same-place), s .same-room)
+
+module _ {self : Client} {m input room : List ℕ} {r : Stepped} {m′ room′ : List ℕ} (p : Drives self m input room r m′ room′) where
+  pub within : (r .taken ≤ length input) × (r .given ≤ length room) × (length room′ ≡ length room)
+  within = go (refusal (length m) self) refl
+    where
+      go : (n : ℕ) → refusal (length m) self ≡ n → (r .taken ≤ length input) × (r .given ≤ length room) × (length room′ ≡ length room)
+      go zero e = let g = p .accepts e .steps .goes in (g .within-input, g .within-room, g .whole)
+      go (suc n) e =
+          let k = p .refuses (λ z. omega (arith, z, e)) in
+          let t : r .taken ≡ 0 = ap (λ (x : Stepped). x .taken) (k .result) in
+          let g : r .given ≡ 0 = ap (λ (x : Stepped). x .given) (k .result) in
+          (omega (arith, t), omega (arith, g), ap length (k .same-room))
 
 -- ---- a state's client is in range as the state is
 coded-range : (x : State) → ranged x ≡ true → inRange (code x) ≡ true

@@ -1,5 +1,4 @@
 pub mod TakenOff
-pub mod Within
 pub mod Wired
 pub mod Driver
 pub mod Driving

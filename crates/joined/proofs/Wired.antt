@@ -15,16 +15,15 @@ use borrow.Rule.Slice.PartMut.{putMid, post-is}
 use Rattle.server.specs.Contract.{Serves}
 use Rattle.server.specs.declared.state.Server.{Server}
 use Rattle.server.specs.declared.Stepped as served
-use Rattle.server.proofs.Result.{same-result as same-served}
+use Rattle.server.proofs.Result.{within as served-within, same-result as same-served}
 use Rattle.client.specs.Contract.{Drives}
 use Rattle.client.specs.declared.state.Client.{Client}
 use Rattle.client.specs.declared.Stepped as driven
-use Rattle.client.proofs.Result.{same-result as same-driven}
+use Rattle.client.proofs.Result.{within as driven-within, same-result as same-driven}
 use Rattle.joined.specs.Code.{client-step, server-step}
 use Rattle.joined.specs.Wired.{takenOff, putOn, ClientMoves, ServerMoves}
 use Rattle.joined.specs.declared.ClientMoved.{ClientMoved}
 use Rattle.joined.specs.declared.ServerMoved.{ServerMoved}
-use Rattle.joined.proofs.Within.{driven-within, served-within}
 
 -- ---- one wire
 clip-take : (n : ℕ) (w : List ℕ) → take (min n (length w)) w ≡ take n w

@@ -4,6 +4,7 @@
 --   session-moves   a session is moves over a first part of its stream
 --   session-then    one session after another
 --   session-way     of two sessions over one stream, one goes on where the other stands
+--   finished-stopped   a session that has finished has stopped, whatever room there is
 --   cutting-room    two sessions over one stream that stop with as much room in all: the same place, bytes given and bytes left
 --   cutting         two finished sessions over one stream: the same, whatever the rooms
 --   session-runs    a finished session is the fuelled run, with enough fuel and room
@@ -25,8 +26,7 @@ use Rattle.machine.proofs.Lists.{take-within}
 use Rattle.machine.proofs.Moves.{then}
 use Rattle.machine.proofs.Runs.{runs, one-stop}
 
--- whatever room there is
-finished-stopped : {X : Type 0} {t : Turn X} {rest : List ℕ} (r : ℕ) → Finished t rest → Stopped t (length rest) r
+pub finished-stopped : {X : Type 0} {t : Turn X} {rest : List ℕ} (r : ℕ) → Finished t rest → Stopped t (length rest) r
 finished-stopped r f = record {
   no-input = λ w. ap length (f .none-left w);
   no-room = λ w. absurd (let z : _≡_ {A = ℕ} 0 1 = cc (f .none-owed) in omega arith);

@@ -26,16 +26,16 @@ use Rattle.client.specs.declared.state.Call.the-variants.{Read}
 use Rattle.client.specs.declared.state.Outcome.the-variants.{Succeeded, Failed}
 use Rattle.client.proofs.Header.{take-part, reply-part}
 use Rattle.client.proofs.Runs.{length-asks, fills}
-use Rattle.client.proofs.Alone.{gathered-run}
+use Rattle.client.proofs.Alone.{owed-run, gathered-run}
 use Rattle.original.specs.Client.{at, Done, stops, ok, fault, failed, getreply, exchange, fill}
 use Rattle.original.proofs.Reaches.{reaches-then}
-use Rattle.original.proofs.ClientMeets.{clientOf, Meets, meets-closed, meets-over, meets-cut, owed-run, part-run}
+use Rattle.original.proofs.ClientMeets.{clientOf, Meets, meets-closed, meets-over, meets-cut, part-run}
 
 module _ (d : Device) (c : Call) (m : List ℕ) where
   pub asks-sent : payload c ≤ length m → Moves turn (on (Calling d c (Asking 28)) m) [] (asks d c ++ take (payload c) m) (on (Calling d c (Hearing [])) m)
   asks-sent fits =
-      then (owed-run (asking d c) (asks d c) m 28 (sym (length-asks d c)) (λ _. refl))
-      (owed-run (paying d c) (take (payload c) m) m (payload c) (sym (length-take-le (payload c) m fits)) (λ _. refl))
+      then (owed-run (asking d c) (asks d c) m (λ _. refl) 28 (sym (length-asks d c)))
+      (owed-run (paying d c) (take (payload c) m) m (λ _. refl) (payload c) (sym (length-take-le (payload c) m fits)))
 
   abbrev hearing : On State
   hearing = on (Calling d c (Hearing [])) m

@@ -3,25 +3,21 @@
 --                a device error
 --   Meets        from x
 --   meets-closed, meets-over, meets-cut   moves that close a call; that come to an end; that want a byte more
---   owed-run     a list that is owed whole
 --   part-run     bytes gathered that are too few to be judged
-use Prim.Native.Nat.{ℕ, suc, _<_}
+use Prim.Native.Nat.{ℕ, _<_}
 use mathlib.Core.Path.{_≡_, refl}
 use mathlib.Core.List.{List, [], _∷_, _++_}
 use mathlib.Core.Option.{Option, none, some}
 use native.Mathlib.Omega.{arith}
 use lib.ListN.{length}
-use lib.Seq.{take-length}
-use Rattle.machine.specs.Machine.{On, on, gives, takes, Moves, still}
+use Rattle.machine.specs.Machine.{On, on, takes, Moves, still}
 use Rattle.machine.specs.Bulk.{Gathers}
-use Rattle.machine.specs.Parts.{owing}
-use Rattle.machine.proofs.Bulk.{sends, gathers}
+use Rattle.machine.proofs.Bulk.{gathers}
 use Rattle.client.specs.Session.{State, Blank, Shaking, Ready, Calling, Closed, Over, turn}
 use Rattle.client.specs.Contract.{valuesIn}
 use Rattle.client.specs.declared.state.Device.{Device}
 use Rattle.client.specs.declared.state.Outcome.{Outcome}
 use Rattle.client.specs.declared.state.Outcome.the-variants.{Open, Succeeded, Failed, Ended, Refused}
-use Rattle.client.proofs.Runs.{each-owed}
 use Rattle.original.specs.Client.{NbdClient, Answer, ok, failed, fault, Done}
 use Rattle.original.proofs.Reaches.{Reaches, reaches-rest, reaches-cut}
 
@@ -57,11 +53,6 @@ meets-over {n = n} p e = reaches-rest (Over n) refl p e
 pub meets-cut : {input m : List ℕ} {x : On State} {y : State} {k : ℕ → On State} → Moves turn x input [] (on y m) → turn (on y m) ≡ takes k → answerOf y ≡ some (fault 50)
     → Reaches turn answerOf x input [] [] m (some (fault 50))
 meets-cut {y = y} p e n = reaches-cut y p e n
-
-pub owed-run : (f : ℕ → State) (l m : List ℕ) (k : ℕ) → k ≡ length l → ((left : ℕ) → turn (on (f (suc left)) m) ≡ gives (owing l (suc left)) (on (f left) m))
-    → Moves turn (on (f k) m) [] l (on (f 0) m)
-owed-run f l m k e each =
-    rw (take-length l) at (sends turn (λ sent left. f left) l m (length l) (each-owed f l m each) (omega arith) (length l) 0 k 0 (length l) (omega arith) (omega arith) (omega arith))
 
 pub part-run : (wait judge : List ℕ → State) (to : ℕ) → ((h : List ℕ) → length h < to → judge h ≡ wait h) → (h m : List ℕ) → Gathers turn wait judge m → length h < to
     → Moves turn (on (wait []) m) h [] (on (wait h) m)

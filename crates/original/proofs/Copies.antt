@@ -1,7 +1,6 @@
 -- `mycopy` where the reader has enough and every write succeeds: it copies `limit` bytes, whatever the parts.
 --   copies        the loop
 --   copied-read   READ inside the window; copied-write   WRITE inside the window, whose payload is there
---   positive      a number other than 0
 --   sets-append   bytes stored one part after the other
 use Prim.Native.Nat.{ℕ, zero, suc, min, _+_, _-_, _≤_, _<_}
 use mathlib.Core.Path.{_≡_, refl, sym, ap, _∙_}
@@ -14,6 +13,7 @@ use lib.Dec.{eqb}
 use lib.ListN.{length, take, drop, set, length-append, length-drop}
 use lib.Seq.{sets, sets-eq, length-sets, length-take-le, take-all, take-add, drop-drop}
 use Rattle.machine.specs.Choice.{pick}
+use Rattle.machine.proofs.Runs.{positive}
 use Rattle.wire.specs.Layouts.{simpleReply}
 use Rattle.original.specs.Copy.{Written, all, Copied, copied, buf, part, turns, mycopy, Cursor, fitting, put, writeAll}
 use Rattle.original.specs.Transmission.{toWire}
@@ -21,10 +21,6 @@ use Rattle.original.specs.Transmission.{toWire}
 pub sets-append : (l : List ℕ) (i : ℕ) (a b : List ℕ) → sets l i (a ++ b) ≡ sets (sets l i a) (i + length a) b
 sets-append l i [] b = let e : i + 0 ≡ i = omega arith in rw e
 sets-append l i (x ∷ a) b = let e : i + suc (length a) ≡ suc i + length a = omega arith in rw e (sets-append (set l i x) (suc i) a b)
-
-pub positive : (n : ℕ) → (n ≡ 0 → ⊥) → 0 < n
-positive zero h = absurd (h refl)
-positive (suc n) h = omega arith
 
 module _ {D : Type 0} (write : D → List ℕ → Written D) where
   -- a part that is read and written

@@ -5,7 +5,6 @@
 --   reaches-cut    all of the input is taken, and a byte more is wanted
 --   Agrees, one-end   so does any session over the input that has finished, however it is cut
 --   step-ends      and one step on the whole input finishes, if its room has space for what is sent
---   stopped-at     a session that has finished has stopped, whatever room there is
 use Prim.Native.Nat.{ℕ, _-_, _≤_}
 use mathlib.Core.Path.{_≡_, refl, sym, ap, subst, _∙_}
 use mathlib.Core.List.{List, [], _++_, append-assoc, append-nil}
@@ -17,7 +16,7 @@ use Rattle.machine.specs.Pieces.{Steps}
 use Rattle.machine.specs.Session.{Session, Finished}
 use Rattle.machine.proofs.Moves.{then}
 use Rattle.machine.proofs.Runs.{one-stop, given-length}
-use Rattle.machine.proofs.Cutting.{session-moves}
+use Rattle.machine.proofs.Cutting.{session-moves, finished-stopped}
 
 pub record Reaches {S A : Type 0} (turn : On S → Turn (On S)) (answer : S → A) (x : On S) (input left sent store : List ℕ) (a : A) : Type 0 where
   pub taken : List ℕ
@@ -32,12 +31,6 @@ pub record Agrees {S A : Type 0} (answer : S → A) (left sent store : List ℕ)
   pub same-sent : given ≡ sent
   pub same-store : m ≡ store
   pub same-answer : answer y ≡ a
-
-pub stopped-at : {X : Type 0} {t : Turn X} {rest : List ℕ} (r : ℕ) → Finished t rest → Stopped t (length rest) r
-stopped-at r f = record {
-  no-input = λ w. ap length (f .none-left w);
-  no-room = λ w. absurd (let z : _≡_ {A = ℕ} 0 1 = cc (f .none-owed) in omega arith);
-}
 
 module _ {S A : Type 0} {turn : On S → Turn (On S)} {answer : S → A} where
   pub reaches-then : {is os input rest left sent store : List ℕ} {x y : On S} {a : A} → Moves turn x is os y → input ≡ is ++ rest
@@ -77,7 +70,7 @@ module _ {S A : Type 0} {turn : On S → Turn (On S)} {answer : S → A} where
       → Finished (turn (on y m)) rest → Agrees answer left sent store a given y m rest
   one-end {sent = sent} {store = store} {given = given} {m = m} {y = y} r s f =
       let b = session-moves s in
-      let i = one-stop (b .2) (stopped-at (length sent) f) (r .moves) (stopped-at (length given) (r .finished)) (sym (b .1) ∙ r .all-in) (omega arith) in
+      let i = one-stop (b .2) (finished-stopped (length sent) f) (r .moves) (finished-stopped (length given) (r .finished)) (sym (b .1) ∙ r .all-in) (omega arith) in
       let p : on y m ≡ on (r .state) store = ap (λ (z : Ran (On S)). z .stands) i in
       let q : y ≡ r .state = cc in
       record {
@@ -92,7 +85,7 @@ module _ {S A : Type 0} {turn : On S → Turn (On S)} {answer : S → A} where
   step-ends {input} {left} {sent} {store} {room} {m} {room′} {x} {y} {a} {taken} {given} r s h =
       let g = s .goes in
       let there : Stopped (turn (on y m)) (length (drop taken input)) (length room - given) = rw (length-drop taken input) (s .stops) in
-      let i = one-stop (g .moves) there (r .moves) (stopped-at (length room - length sent) (r .finished)) (take-append-drop taken input ∙ r .all-in)
+      let i = one-stop (g .moves) there (r .moves) (finished-stopped (length room - length sent) (r .finished)) (take-append-drop taken input ∙ r .all-in)
       (omega (arith, given-length g, g .within-room)) in
       let place : on y m ≡ on (r .state) store = ap (λ (z : Ran (On S)). z .stands) i in
       let behind : drop taken input ≡ left = ap (λ (z : Ran (On S)). z .rest) i in

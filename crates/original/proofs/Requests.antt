@@ -15,6 +15,7 @@ use lib.ListN.{length, take, drop, set, length-append, take-append-drop}
 use lib.Seq.{sets, length-take-le, drop-drop, drop-set-add, take-set-lt}
 use Rattle.machine.specs.Choice.{both, either}
 use Rattle.machine.specs.Machine.{on, Moves}
+use Rattle.machine.proofs.Runs.{positive}
 use Rattle.wire.specs.Fields.{be, number, Bytes}
 use Rattle.wire.specs.Constants.{NBD-REQUEST-MAGIC, NBD-CMD-READ, NBD-CMD-WRITE}
 use Rattle.wire.specs.Layouts.{request, simpleReply}
@@ -30,7 +31,7 @@ use Rattle.original.specs.Copy.{turns}
 use Rattle.original.specs.Transmission.{Next, again, stop, fails, reads, writes, afterRead, command, oneRequest}
 use Rattle.original.specs.Server.{placed, passes, excluded, excludedAt}
 use Rattle.original.proofs.Meets.{Meets, meets-over, meets-cut}
-use Rattle.original.proofs.Copies.{positive, copied-read, copied-write}
+use Rattle.original.proofs.Copies.{copied-read, copied-write}
 use Rattle.original.proofs.Headers.{header-whole, header-other, header-short, behind1, behind2, behind3, behind4, behind5, behind6, layout, fields-fit}
 use Rattle.original.proofs.Parts.{request-part, magic-part}
 

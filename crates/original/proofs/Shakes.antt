@@ -17,6 +17,7 @@ use lib.Seq.{length-take-le}
 use Rattle.machine.specs.Choice.{pick, both}
 use Rattle.machine.specs.Machine.{on, Moves}
 use Rattle.machine.proofs.Moves.{then}
+use Rattle.machine.proofs.Runs.{positive}
 use Rattle.wire.specs.Fields.{be, number, Bytes}
 use Rattle.wire.specs.Constants.{IHAVEOPT, rustnbd}
 use Rattle.wire.specs.Layouts.{greeting, optionRequest, optionReply, exportReply}
@@ -34,7 +35,6 @@ use Rattle.original.specs.Connection.{readNumber, ended}
 use Rattle.original.specs.Handshake.{Shaken, chose, failed, writes, fails, cut, lookup, zeroes, found, option, options, handshake}
 use Rattle.original.proofs.Reaches.{reaches-then}
 use Rattle.original.proofs.Meets.{Meets, meets-over, meets-cut}
-use Rattle.original.proofs.Copies.{positive}
 use Rattle.original.proofs.Headers.{front}
 use Rattle.original.proofs.Parts.{flags-part, option-part, option-magic-part, payload-part}
 use Rattle.original.proofs.Requests.{above}

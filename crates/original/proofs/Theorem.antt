@@ -14,7 +14,7 @@ use Rattle.machine.specs.Machine.{On, on, owes}
 use Rattle.machine.specs.Run.{reached, run}
 use Rattle.machine.specs.Session.{Session, Finished}
 use Rattle.machine.proofs.Runs.{runs}
-use Rattle.machine.proofs.Cutting.{one-piece}
+use Rattle.machine.proofs.Cutting.{one-piece, finished-stopped}
 use Rattle.wire.specs.Fields.{Bytes}
 use Rattle.wire.specs.Table.{fault}
 use Rattle.server.specs.Session.{State, Greeting, ClientFlags, OptionHead, Naming, Passing, Listing, Declining, Aborting, Exporting, Shaking, turn}
@@ -32,7 +32,7 @@ use Rattle.server.proofs.Cutting.{calls-session}
 use Rattle.original.specs.Connection.{ended}
 use Rattle.original.specs.Handshake.{Shaken, chose, failed, handshake}
 use Rattle.original.specs.Server.{serve, session, DomainAfter, Domain, endOf, Same}
-use Rattle.original.proofs.Reaches.{reaches-then, stopped-at, one-end, step-ends}
+use Rattle.original.proofs.Reaches.{reaches-then, one-end, step-ends}
 use Rattle.original.proofs.Meets.{Meets}
 use Rattle.original.proofs.Loop.{bytes-behind, transmission-same}
 use Rattle.original.proofs.Shakes.{Shakes, handshake-same}
@@ -101,7 +101,7 @@ module _ (t m input : List ℕ) (sound : fault (length m) t ≡ 0) (bytes : Byte
           let r = session t m input in
           let e : length (r .sent) + (room - length (r .sent)) ≡ room = omega arith in
           let l = ap length (meets .all-in) ∙ length-append (meets .taken) (r .left) in
-          rw (← meets .all-in, e) at (runs k (r .left) (room - length (r .sent)) (meets .moves) (stopped-at (room - length (r .sent)) (meets .finished)) (omega arith))
+          rw (← meets .all-in, e) at (runs k (r .left) (room - length (r .sent)) (meets .moves) (finished-stopped (room - length (r .sent)) (meets .finished)) (omega arith))
 
   -- steps of the code one after the other, from a fresh server
   pub calls-same : {given m′ rest : List ℕ} {z : Server} → Calls t (code start) m input given z m′ rest → Finished (turn t (on (view z) m′)) rest

@@ -1,6 +1,7 @@
 -- What follows from the contracts of the public functions.
 --   same-result, same-closed, same-header   two results that are allowed for one call of `step`, `end_of_input` or `oldstyle_header` are equal
 --   stepped-same        what `step` answers is equal where its parts are
+--   within              the counts of a step lie within what was lent, and the room is as long as it was, refused or not
 --   never-refused       after a step that was not refused, the same table and an image as long are not refused
 --   image-length        a step leaves the image as long as it was
 --   step-in-range, end-in-range   a struct within its ranges is followed by such a struct, whatever is lent, refused or not
@@ -91,6 +92,17 @@ module _ {self : Server} {t m input room : List ℕ} {r : Stepped} {m′ room′
 
   pub never-refused : refusal t (length m) self ≡ 0 → refusal t (length m′) (r .state) ≡ 0
   never-refused e = let a = after e in rw (a .1) (a .0 .fits)
+
+  pub within : (r .taken ≤ length input) × (r .given ≤ length room) × (length room′ ≡ length room)
+  within = go (refusal t (length m) self) refl
+    where
+      go : (n : ℕ) → refusal t (length m) self ≡ n → (r .taken ≤ length input) × (r .given ≤ length room) × (length room′ ≡ length room)
+      go zero e = let g = p .accepts e .steps .goes in (g .within-input, g .within-room, g .whole)
+      go (suc n) e =
+          let k = p .refuses (λ z. omega (arith, z, e)) in
+          let i : r .taken ≡ 0 = ap (λ (x : Stepped). x .taken) (k .result) in
+          let o : r .given ≡ 0 = ap (λ (x : Stepped). x .given) (k .result) in
+          (omega (arith, i), omega (arith, o), ap length (k .same-room))
 
   pub image-length : length m′ ≡ length m
   image-length = go (refusal t (length m) self) refl

@@ -5,7 +5,7 @@ use native.Mathlib.Omega.{arith}
 use lib.ListN.{length, take, drop, length-take}
 use lib.Seq.{length-take-le}
 use denote.Ref.{now}
-use Rattle.joined.proofs.Within.{driven-within}
+use Rattle.client.proofs.Result.{within}
 use Rattle.joined.proofs.Wired.{client-moved}
 use borrow.Author.Needs.{needs}
 use Rattle.joined.proofs.client_move.Statement.{statement}
@@ -49,7 +49,7 @@ step-requires c κs = search needs
 
 take-off-requires : tie.Need-take-off-requires
 take-off-requires c κs =
-    let w = driven-within (c .before .before .before .before .before .step .ensures) in
+    let w = within (c .before .before .before .before .before .step .ensures) in
     let l = length-take (c .before .before .before .before .before .before .before .before .before .before .before .least2 .result) (now (c .before .before .before .before .before .before .before .before .before .before .before .before .before .before .before .before .args .down)) in
     (omega (arith, w .0, l, c .before .before .before .before .before .before .before .before .before .before .before .least2 .ensures), omega (arith, c .before .before .before .before .before .before .before .before .before .before .before .before .least .ensures))
 
@@ -58,14 +58,14 @@ add-t16 c =
     let up = now (c .before .before .before .before .before .before .before .before .before .before .before .before .before .before .before .before .before .before .before .before .args .up) in
     let from = c .before .before .before .before .before .before .before .before .before .before .before .before .before .before .least3 .result in
     let more = c .before .before .before .before .before .before .before .before .before .before .before .before .before .least4 .result in
-    let w : c .before .before .before .before .before .before .before .before .before .step .result .given ≤ length (take (from + more - from) (drop from up)) = driven-within (c .before .before .before .before .before .before .before .before .before .step .ensures) .1 in
+    let w : c .before .before .before .before .before .before .before .before .before .step .result .given ≤ length (take (from + more - from) (drop from up)) = within (c .before .before .before .before .before .before .before .before .before .step .ensures) .1 in
     let k : from + c .before .before .before .before .before .before .before .before .before .step .result .given ≤ from + more = omega (arith, w, length-take (from + more - from) (drop from up)) in
     let f : from + more < 2 ^ 64 = add-to (c .before .before .before .before .before .before .before .before .before .before .before .before .before) .fits in
     record { fits = omega (arith, k, f) }
 
 sub-t15 : tie.Need-sub-t15
 sub-t15 c =
-    let w = driven-within (c .before .before .before .before .before .before .before .before .before .before .step .ensures) in
+    let w = within (c .before .before .before .before .before .before .before .before .before .before .step .ensures) in
     let l = length-take (c .before .before .before .before .before .before .before .before .before .before .before .before .before .before .before .before .least2 .result) (now (c .before .before .before .before .before .before .before .before .before .before .before .before .before .before .before .before .before .before .before .before .before .args .down)) in
     omega (arith, w .0, l, c .before .before .before .before .before .before .before .before .before .before .before .before .before .before .before .before .least2 .ensures)
 

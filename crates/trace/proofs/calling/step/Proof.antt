@@ -1,6 +1,6 @@
 -- What is given lies in the room.
 use native.Mathlib.Omega.{arith}
-use Rattle.trace.proofs.Given.{asked-within}
+use Rattle.client.proofs.Result.{within}
 use borrow.Author.Needs.{needs}
 use Rattle.trace.proofs.calling.step.Statement.{statement}
 use Rattle.trace.proofs.calling.step.Tie as tie
@@ -27,7 +27,7 @@ kept-requires : tie.Need-kept-requires
 kept-requires c κs = search needs
 
 show-requires : tie.Need-show-requires
-show-requires c κs = omega (arith, asked-within (c .before .before .before .before .before .before .before .before .before .before .before .before .step .ensures), c .before .before .before .before .before .before .before .before .before .before .before .before .step)
+show-requires c κs = omega (arith, within (c .before .before .before .before .before .before .before .before .before .before .before .before .step .ensures) .1, c .before .before .before .before .before .before .before .before .before .before .before .before .step)
 
 same-length : tie.Need-same-length
 same-length c = search needs
