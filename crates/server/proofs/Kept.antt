@@ -17,11 +17,12 @@ use Rattle.machine.proofs.Moves.{kept}
 use Rattle.wire.specs.Fields.{number, field, sameBytes}
 use Rattle.wire.specs.Constants.{IHAVEOPT, NBD-REQUEST-MAGIC}
 use Rattle.wire.specs.Utf8.{whole}
-use Rattle.wire.specs.Table.{fault, readOnly}
-use Rattle.wire.specs.Lookup.{chosen, bits}
+use Rattle.wire.specs.Table.{fault, readOnly, records}
+use Rattle.wire.specs.Lookup.{chosen}
 use Rattle.wire.specs.declared.utf8.Utf8.{Utf8}
 use Rattle.wire.specs.declared.table.Export.{Export}
 use Rattle.wire.proofs.Tests.{both-true, both-left, both-right}
+use Rattle.wire.proofs.Found.{length-started, length-narrowed}
 use Rattle.server.specs.Request.{requestOf, past, owedRead, owedWrite, owed}
 use Rattle.server.specs.Session.{Handshake, Greeting, ClientFlags, OptionHead, Naming, Passing, Listing, Declining, Aborting, Exporting}
 use Rattle.server.specs.Session.{Transmission, Header, Storing, Dropping, Replying, Sending, State, Shaking, Serving, Over}
@@ -119,19 +120,20 @@ module _ (t : List ℕ) (n : ℕ) where
         let a = accepted-at n t sound k in
         shaking (both-true (a .0) (whole-reply z)) (rw (sound, a .1))
 
-    named-good : (z : Bool) (fits : ℕ) (text : Utf8) → G (named z t fits text)
+    named-good : (z : Bool) (fits : List Bool) (text : Utf8) → G (named z t fits text)
     unfolding named
-    named-good z fits text = picked G (whole text) (λ _. found-good z (chosen (bits 32 fits))) λ _. over 5 (omega arith)
+    named-good z fits text = picked G (whole text) (λ _. found-good z (chosen fits)) λ _. over 5 (omega arith)
 
-    naming-good : (z : Bool) (fits : ℕ) (text : Utf8) (at left : ℕ) → at + left ≤ 100000 → G (naming z t fits text at left)
-    naming-good z fits text at zero h = named-good z fits text
-    naming-good z fits text at (suc left) h = shaking (both-true (lt-ltb 0 (suc left) (omega arith)) (le-leb (at + suc left) 100000 h)) (rw sound)
+    naming-good : (z : Bool) (fits : List Bool) (text : Utf8) (at left : ℕ) → length fits ≡ 32 → at + left ≤ 100000 → G (naming z t fits text at left)
+    naming-good z fits text at zero k h = named-good z fits text
+    naming-good z fits text at (suc left) k h =
+        shaking (both-true (eq-eqb (length fits) 32 k) (both-true (lt-ltb 0 (suc left) (omega arith)) (le-leb (at + suc left) 100000 h))) (rw sound)
 
     payload-good : (z : Bool) (option len : ℕ) → G (payload z t option len)
     unfolding payload
     payload-good z option len =
         picked G (leb len 100000)
-        (λ h. picked G (eqb option 1) (λ _. naming-good z _ _ 0 len (omega (arith, leb-true len 100000 h))) λ e. passing-good z option len len e (omega arith) (leb-true len 100000 h))
+        (λ h. picked G (eqb option 1) (λ _. naming-good z _ _ 0 len (length-started (records t) len) (omega (arith, leb-true len 100000 h))) λ e. passing-good z option len len e (omega arith) (leb-true len 100000 h))
         λ _. over 3 (omega arith)
 
     opted-good : (z : Bool) (h : List ℕ) → G (opted z t h)
@@ -236,8 +238,9 @@ module _ (t : List ℕ) (n : ℕ) where
   kept-good (on (Shaking (ClientFlags got)) m) h = λ b. (h .0, flagged-good t n (table-sound (h .1)) (got ++ b ∷ []))
   kept-good (on (Shaking (OptionHead z got)) m) h = λ b. (h .0, opted-good t n (table-sound (h .1)) z (got ++ b ∷ []))
   kept-good (on (Shaking (Naming z fits text at left)) m) h =
-      let b = some-within at left 100000 (h .1 .within) in
-      λ _. (h .0, naming-good t n (table-sound (h .1)) z _ _ (suc at) (less left) (less-fits at left 100000 (b .0) (b .1)))
+      let k = eqb-true (length fits) 32 (both-left (eqb (length fits) 32) _ (h .1 .within)) in
+      let s = some-within at left 100000 (both-right (eqb (length fits) 32) _ (h .1 .within)) in
+      λ b. (h .0, naming-good t n (table-sound (h .1)) z _ _ (suc at) (less left) (length-narrowed (records t) at (b ∷ []) fits ∙ k) (less-fits at left 100000 (s .0) (s .1)))
   kept-good (on (Shaking (Passing z option len left)) m) h =
       let a = passing-bounds option len left (h .1 .within) in
       λ _. (h .0, passing-good t n (table-sound (h .1)) z option len (less left) (a .0) (less-le left len (a .1)) (a .2))

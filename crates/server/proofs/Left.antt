@@ -32,7 +32,7 @@ pub passing-more : (z : Bool) (option len l : ℕ) → (l ≡ 0 → ⊥) → Sha
 passing-more z option len zero h = absurd (h refl)
 passing-more z option len (suc l) h = refl
 
-pub naming-more : (z : Bool) (t : List ℕ) (fits : ℕ) (text : Utf8) (at l : ℕ) → (l ≡ 0 → ⊥) → Shaking (Naming z fits text at l) ≡ naming z t fits text at l
+pub naming-more : (z : Bool) (t : List ℕ) (fits : List Bool) (text : Utf8) (at l : ℕ) → (l ≡ 0 → ⊥) → Shaking (Naming z fits text at l) ≡ naming z t fits text at l
 naming-more z t fits text at zero h = absurd (h refl)
 naming-more z t fits text at (suc l) h = refl
 

@@ -24,12 +24,12 @@ use Rattle.wire.specs.Constants.{IHAVEOPT, rustnbd, NBD-OPT-EXPORT-NAME, NBD-OP
 use Rattle.wire.specs.Layouts.{greeting, optionRequest, exportName, optionReply, exportReply}
 use Rattle.wire.specs.Utf8.{run, valid}
 use Rattle.wire.specs.Table.{records, wireFlags}
-use Rattle.wire.specs.Lookup.{started, narrowedBy, bits, word}
+use Rattle.wire.specs.Lookup.{started, narrowedBy}
 use Rattle.wire.specs.Found.{Named, First}
 use Rattle.wire.specs.declared.utf8.Utf8.the-variants.{Start}
 use Rattle.wire.proofs.BigEndian.{number-be, same-bytes-eq}
-use Rattle.wire.proofs.Words.{word-lt}
-use Rattle.wire.proofs.Found.{length-started, lookup-first, lookup-none}
+use Rattle.wire.proofs.Walks.{records-few}
+use Rattle.wire.proofs.Found.{found-first, found-none}
 use Rattle.server.specs.Exchanges.{Unsupported, UnknownOption}
 use Rattle.server.specs.Session.{State, Greeting, ClientFlags, OptionHead, Declining, Shaking, Header, Serving, Over}
 use Rattle.server.specs.Session.{flagged, answered, passing, listReplies, exportAt, named, payload, opted, turn}
@@ -105,24 +105,23 @@ module _ (t m : List ℕ) (z : Bool) where
 
   -- ---- EXPORT_NAME
   module _ (name : List ℕ) (short : length name ≤ 100000) where
-    abbrev fitting : ℕ
-    fitting = word (narrowedBy (records t) 0 name (bits 32 (word (started (records t) (length name)))))
+    abbrev fitting : List Bool
+    fitting = narrowedBy (records t) 0 name (started (records t) (length name))
 
     name-taken : Moves (turn t) (on ready m) (optionRequest NBD-OPT-EXPORT-NAME name) [] (on (named z t fitting (run Start name)) m)
     unfolding optionRequest payload
     name-taken =
         let set = started (records t) (length name) in
-        let l : word set < 2 ^ 32 = rw length-started at (word-lt set) in
-        let v : Seen = record { fits = word set; text = Start; at = 0 } in
+        let v : Seen = record { fits = set; text = Start; at = 0 } in
         let head = rw (le-leb (length name) 100000 short) at (option-judged NBD-OPT-EXPORT-NAME (length name) (omega arith) (omega arith)) in
         let rest = folds (turn t) (stands z t) (sees t) (each-seen z t m) name v (length name) 0 (omega arith) in
-        then head (rw (seen t name (word set) Start 0 l) at rest)
+        then head (rw (seen t name set Start 0) at rest)
 
     -- the first export of that name
     pub whole-export : (k : ℕ) → valid name ≡ true → First (records t) name k
         → Moves (turn t) (on ready m) (optionRequest NBD-OPT-EXPORT-NAME name) (exportReply (exportAt t k .size) (wireFlags (exportAt t k .flags)) z) (on (Serving (exportAt t k) (Header [])) m)
     unfolding named
-    whole-export k text f = and-gives (rw (text, lookup-first t name k .1 f) at name-taken) (exported-given t m z (exportAt t k))
+    whole-export k text f = and-gives (rw (text, found-first (records t) name (records-few t) k .1 f) at name-taken) (exported-given t m z (exportAt t k))
 
     pub whole-export-not-text : valid name ≡ false → Moves (turn t) (on ready m) (optionRequest NBD-OPT-EXPORT-NAME name) [] (on (Over 5) m)
     unfolding named
@@ -131,7 +130,7 @@ module _ (t m : List ℕ) (z : Bool) where
     pub whole-export-unknown : valid name ≡ true → ((k : ℕ) → Named (records t) k name → ⊥)
         → Moves (turn t) (on ready m) (optionRequest NBD-OPT-EXPORT-NAME name) [] (on (Over 6) m)
     unfolding named
-    whole-export-unknown text none-has = rw (text, lookup-none t name .1 none-has) at name-taken
+    whole-export-unknown text none-has = rw (text, found-none (records t) name (records-few t) .1 none-has) at name-taken
 
   -- ---- the other options: the whole payload is taken, then the option is answered
   module _ (data′ : List ℕ) (short : length data′ ≤ 100000) where

@@ -42,7 +42,7 @@ use Rattle.server.specs.declared.oldstyle.HeaderAnswer.{HeaderAnswer}
 use Rattle.server.specs.declared.oldstyle.HeaderAnswer.the-variants.{Written, NoRoom}
 use Rattle.server.proofs.Bounds.{accepted}
 use Rattle.server.proofs.Kept.{still-good, next-good}
-use Rattle.server.proofs.Tidy.{in-range, coded, used-fits}
+use Rattle.server.proofs.Tidy.{Digits, over-digits, in-range, coded, used-fits}
 
 -- ---- two results of one call
 pub stepped-same : {r r′ : Stepped} → r .state ≡ r′ .state → r .taken ≡ r′ .taken → r .given ≡ r′ .given → r .outcome ≡ r′ .outcome → r ≡ r′
@@ -179,8 +179,8 @@ blank-replicate (b ∷ l) e =
     let r = blank-replicate l (both-right (eqb b 0) (blank l) e) in
     cc
 
-pub one-struct : (s : Server) → length (s .head) ≡ 28 → inRange s ≡ true → s ≡ code (view s)
-one-struct s long h =
+pub one-struct : (s : Server) → length (s .head) ≡ 28 → Digits (s .phase) → inRange s ≡ true → s ≡ code (view s)
+one-struct s long d h =
     let k = used (s .phase) in
     let f = used-fits (s .head) long (s .phase) (both-right (tidy s) (ranged (view s)) h) in
     let z : drop k (s .head) ≡ replicate (28 - k) 0 =
@@ -189,7 +189,7 @@ one-struct s long h =
     let w : take k (s .head) ++ replicate (28 - k) 0 ≡ s .head = ap (λ (l : List ℕ). take k (s .head) ++ l) (sym z) ∙ take-append-drop k (s .head) in
     let e : _≡_ {A = Server} (record { phase = s .phase; head = take k (s .head) ++ replicate (28 - k) 0 }) (record { phase = s .phase; head = s .head }) =
     ap (λ (l : List ℕ). record { phase = s .phase; head = l }) w in
-    sym (coded (s .head) long (s .phase) f ∙ e)
+    sym (coded (s .head) long (s .phase) f d ∙ e)
 
 pub reached-one-struct : {s : Server} → Reached s → s ≡ code (view s)
 reached-one-struct fresh = refl
@@ -227,7 +227,7 @@ module _ {self : Server} {n : ℕ} (long : length (self .head) ≡ 28) (within :
       let i : r .taken ≡ 0 = sym (taken-length g) ∙ ap length (w .0) in
       let o : r .given ≡ 0 = sym (given-length g) ∙ ap length (w .1) in
       let v : view (r .state) ≡ Over n = cc (w .2) in
-      let s : r .state ≡ self = a .one-struct ∙ ap code (v ∙ sym ended) ∙ sym (one-struct self long within) in
+      let s : r .state ≡ self = a .one-struct ∙ ap code (v ∙ sym ended) ∙ sym (one-struct self long (over-digits (self .head) (self .phase) ended) within) in
       let x : r .outcome ≡ Ended n = a .outcome ∙ ap outcomeOf v in
       (stepped-same s i o x, cc (w .2), rw o at (g .rest))
 

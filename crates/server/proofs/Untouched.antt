@@ -19,7 +19,7 @@ use Rattle.machine.proofs.Moves.{kept, resting}
 use Rattle.wire.specs.Fields.{number, field, sameBytes}
 use Rattle.wire.specs.Constants.{IHAVEOPT, NBD-REQUEST-MAGIC}
 use Rattle.wire.specs.Utf8.{whole}
-use Rattle.wire.specs.Lookup.{chosen, bits}
+use Rattle.wire.specs.Lookup.{chosen}
 use Rattle.wire.specs.declared.utf8.Utf8.{Utf8}
 use Rattle.wire.specs.declared.table.Export.{Export}
 use Rattle.server.specs.Request.{requestOf, owed}
@@ -174,9 +174,9 @@ early-found : (z : Bool) (t : List ℕ) (o : Option ℕ) → Early (found z t o)
 early-found z t none = tt
 early-found z t (some k) = tt
 
-early-naming : (z : Bool) (t : List ℕ) (fits : ℕ) (text : Utf8) (at left : ℕ) → Early (naming z t fits text at left)
+early-naming : (z : Bool) (t : List ℕ) (fits : List Bool) (text : Utf8) (at left : ℕ) → Early (naming z t fits text at left)
 unfolding named
-early-naming z t fits text at zero = picked Early (whole text) (λ _. early-found z t (chosen (bits 32 fits))) (λ _. tt)
+early-naming z t fits text at zero = picked Early (whole text) (λ _. early-found z t (chosen fits)) (λ _. tt)
 early-naming z t fits text at (suc left) = tt
 
 early-opted : (z : Bool) (t h : List ℕ) → Early (opted z t h)

@@ -32,7 +32,7 @@ abbrev pub rangedShaking : Handshake → Bool
 rangedShaking (Greeting left) = between 1 18 left
 rangedShaking (ClientFlags got) = ltb (length got) 4
 rangedShaking (OptionHead z got) = ltb (length got) 16
-rangedShaking (Naming z fits text at left) = both (ltb 0 left) (leb (at + left) 100000)
+rangedShaking (Naming z fits text at left) = both (eqb (length fits) 32) (both (ltb 0 left) (leb (at + left) 100000))
 rangedShaking (Passing z option len left) = both (not (eqb option NBD-OPT-EXPORT-NAME)) (both (between 1 len left) (leb len 100000))
 rangedShaking (Listing z left) = between 1 51 left
 rangedShaking (Declining z option left) = both (unsupported option) (between 1 20 left)

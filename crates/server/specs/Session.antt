@@ -24,7 +24,7 @@ use Rattle.wire.specs.Layouts.{greeting, optionReply, exportReply, simpleReply}
 use Rattle.wire.specs.Utf8.{next, whole}
 use Rattle.wire.specs.Table.{records, blank, wireFlags}
 use Rattle.wire.specs.Walk.{exportOf}
-use Rattle.wire.specs.Lookup.{started, narrowed, chosen, bits, word}
+use Rattle.wire.specs.Lookup.{started, narrowed, chosen}
 use Rattle.wire.specs.declared.utf8.Utf8.{Utf8}
 use Rattle.wire.specs.declared.utf8.Utf8.the-variants.{Start}
 use Rattle.wire.specs.declared.table.Export.{Export}
@@ -38,7 +38,7 @@ pub data Handshake : Type 0 where
   Greeting : ℕ → Handshake  -- so many bytes of the greeting are owed
   ClientFlags : List ℕ → Handshake  -- the bytes of the client's flags so far
   OptionHead : Bool → List ℕ → Handshake  -- the bytes of an option's magic, type and length so far
-  Naming : Bool → ℕ → Utf8 → ℕ → ℕ → Handshake  -- a name: the exports that fit it so far, its text so far, its next place, and how many bytes are left
+  Naming : Bool → List Bool → Utf8 → ℕ → ℕ → Handshake  -- a name: the exports that fit it so far, its text so far, its next place, and how many bytes are left
   Passing : Bool → ℕ → ℕ → ℕ → Handshake  -- another option's payload: the option, the payload's length, and how many bytes are left
   Listing : Bool → ℕ → Handshake  -- so many bytes of the replies to LIST are owed
   Declining : Bool → ℕ → ℕ → Handshake  -- an option that is not supported, and how many bytes of the reply are owed
@@ -147,10 +147,10 @@ abbrev pub found : Bool → List ℕ → Option ℕ → State
 found z t none = Over 6
 found z t (some k) = Shaking (Exporting z (exportAt t k) (replyLength z))
 
-unfoldable pub named : Bool → List ℕ → ℕ → Utf8 → State
-named z t fits text = pick (whole text) (found z t (chosen (bits 32 fits))) (Over 5)
+unfoldable pub named : Bool → List ℕ → List Bool → Utf8 → State
+named z t fits text = pick (whole text) (found z t (chosen fits)) (Over 5)
 
-abbrev pub naming : Bool → List ℕ → ℕ → Utf8 → ℕ → ℕ → State
+abbrev pub naming : Bool → List ℕ → List Bool → Utf8 → ℕ → ℕ → State
 naming z t fits text at zero = named z t fits text
 naming z t fits text at (suc left) = Shaking (Naming z fits text at (suc left))
 
@@ -162,7 +162,7 @@ optionUntil have = pick (ltb have 8) 8 16
 unfoldable pub payload : Bool → List ℕ → ℕ → ℕ → State
 payload z t option len =
     pick (leb len 100000)
-    (pick (eqb option NBD-OPT-EXPORT-NAME) (naming z t (word (started (records t) len)) Start 0 len) (passing z option len len))
+    (pick (eqb option NBD-OPT-EXPORT-NAME) (naming z t (started (records t) len) Start 0 len) (passing z option len len))
     (Over 3)
 
 unfoldable pub opted : Bool → List ℕ → List ℕ → State
@@ -194,7 +194,7 @@ turn t (on (Shaking (Greeting left)) m) = gives (owing greeting left) (on (greet
 turn t (on (Shaking (ClientFlags got)) m) = takes (λ b. on (flagged (got ++ b ∷ [])) m)
 turn t (on (Shaking (OptionHead z got)) m) = takes (λ b. on (opted z t (got ++ b ∷ [])) m)
 turn t (on (Shaking (Naming z fits text at left)) m) =
-    takes (λ b. on (naming z t (word (narrowed (records t) at b (bits 32 fits))) (next text b) (suc at) (less left)) m)
+    takes (λ b. on (naming z t (narrowed (records t) at b fits) (next text b) (suc at) (less left)) m)
 turn t (on (Shaking (Passing z option len left)) m) = takes (λ b. on (passing z option len (less left)) m)
 turn t (on (Shaking (Listing z left)) m) = gives (owing listReplies left) (on (listing z (less left)) m)
 turn t (on (Shaking (Declining z option left)) m) = gives (owing (declined option) left) (on (declining z option (less left)) m)

@@ -5,6 +5,7 @@
 use Prim.Native.Nat.{ℕ, _-_}
 use mathlib.Core.List.{List, [], _++_}
 use lib.ListN.{length, take, replicate}
+use Rattle.wire.specs.Lookup.{setOf, word}
 use Rattle.server.specs.Session.{Handshake, Greeting, ClientFlags, OptionHead, Naming, Passing, Listing, Declining, Aborting, Exporting}
 use Rattle.server.specs.Session.{Transmission, Header, Storing, Dropping, Replying, Sending, State, Shaking, Serving, Over}
 use Rattle.server.specs.declared.state.Handshake as hs
@@ -16,7 +17,7 @@ abbrev pub handshakeOf : List ℕ → hs.Handshake → Handshake
 handshakeOf h (hs.Handshake.Greeting left) = Greeting left
 handshakeOf h (hs.Handshake.ClientFlags have) = ClientFlags (take have h)
 handshakeOf h (hs.Handshake.OptionHead z have) = OptionHead z (take have h)
-handshakeOf h (hs.Handshake.Naming z fits text at left) = Naming z fits text at left
+handshakeOf h (hs.Handshake.Naming z fits text at left) = Naming z (setOf fits) text at left
 handshakeOf h (hs.Handshake.Passing z option len left) = Passing z option len left
 handshakeOf h (hs.Handshake.Listing z left) = Listing z left
 handshakeOf h (hs.Handshake.Declining z option left) = Declining z option left
@@ -43,7 +44,7 @@ abbrev pub handshakePhase : Handshake → hs.Handshake
 handshakePhase (Greeting left) = hs.Handshake.Greeting left
 handshakePhase (ClientFlags got) = hs.Handshake.ClientFlags (length got)
 handshakePhase (OptionHead z got) = hs.Handshake.OptionHead z (length got)
-handshakePhase (Naming z fits text at left) = hs.Handshake.Naming z fits text at left
+handshakePhase (Naming z fits text at left) = hs.Handshake.Naming z (word fits) text at left
 handshakePhase (Passing z option len left) = hs.Handshake.Passing z option len left
 handshakePhase (Listing z left) = hs.Handshake.Listing z left
 handshakePhase (Declining z option left) = hs.Handshake.Declining z option left

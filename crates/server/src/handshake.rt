@@ -23,6 +23,7 @@ ghost use lib.ListN.{length, take};
 ghost use Rattle.machine.specs.Machine.{on};
 ghost use Rattle.machine.specs.Pieces.{Absorbs, Emits};
 ghost use Rattle.wire.specs.Layouts.{greeting, optionReplyHead};
+ghost use Rattle.wire.specs.Lookup.{setOf};
 ghost use Rattle.server.specs.Session.{
   Greeting,
   ClientFlags,
@@ -189,7 +190,7 @@ fn passing(zeroes: bool, option: u32, len: usize, left: usize) -> Phase
 
 // A name whose last byte has been taken.
 fn named(zeroes: bool, table: &[u8], fits: u32, text: Utf8) -> Phase
-    ensures { λ r. ⌜ ((h : List ℕ) → viewOf h r ≡ named zeroes (now (table .entry)) fits text) ⌝ }
+    ensures { λ r. ⌜ ((h : List ℕ) → viewOf h r ≡ named zeroes (now (table .entry)) (setOf fits) text) ⌝ }
 {
     if text.whole() {
         let found = lookup::lowest(fits);
@@ -211,7 +212,7 @@ fn named(zeroes: bool, table: &[u8], fits: u32, text: Utf8) -> Phase
 }
 
 fn naming(zeroes: bool, table: &[u8], fits: u32, text: Utf8, at: usize, left: usize) -> Phase
-    ensures { λ r. ⌜ ((h : List ℕ) → viewOf h r ≡ naming zeroes (now (table .entry)) fits text at left) ⌝ }
+    ensures { λ r. ⌜ ((h : List ℕ) → viewOf h r ≡ naming zeroes (now (table .entry)) (setOf fits) text at left) ⌝ }
 {
     if left == 0 {
         named(zeroes, table, fits, text)
@@ -350,7 +351,7 @@ pub fn take_name(
     input: &[u8],
 ) -> Took
     requires { ⌜ (0 < left) × (at + left ≤ 100000) ⌝ }
-    ensures { λ r. ⌜ ((m : List ℕ) → Absorbs (turn (now (table .entry))) (on (Shaking (Naming zeroes fits text at left)) m) (now (input .entry)) (r .taken) (on (view (r .state)) m)) ⌝ }
+    ensures { λ r. ⌜ ((m : List ℕ) → Absorbs (turn (now (table .entry))) (on (Shaking (Naming zeroes (setOf fits) text at left)) m) (now (input .entry)) (r .taken) (on (view (r .state)) m)) ⌝ }
 {
     let n = copy::least(left, input.len());
     let part = &input[..n];

@@ -4,7 +4,6 @@
 --   found-changing   tables that change from step to step (the set's record k at the end)
 --   found-first      one table: what is chosen is the first record of that name
 --   found-none       one table: nothing is chosen exactly where no record has that name
---   lookup-first, lookup-none   the same of what `started`, `narrowed` and `lowest` of the code ensure, one after the other
 --   became-longer    the example of a record that has become longer
 use Prim.Native.Nat.{ℕ, zero, suc, _+_, _≤_, _<_}
 use mathlib.Core.Path.{_≡_, refl, ap, sym, _∙_}
@@ -17,11 +16,9 @@ use lib.ListN.{length, getD}
 use lib.Seq.{ext-getD}
 use lib.Dec.{eqb, ltb}
 use borrow.Author.Tests.{eq-eqb, eqb-true, ltb-true, lt-ltb}
-use Rattle.wire.specs.Table.{Record, records}
-use Rattle.wire.specs.Lookup.{startedIn, started, has, narrowed, narrowedBy, chosen, later, word, bits}
+use Rattle.wire.specs.Table.{Record}
+use Rattle.wire.specs.Lookup.{startedIn, started, has, narrowed, narrowedBy, chosen, later}
 use Rattle.wire.specs.Found.{nameOf, Named, First, Step, narrowedUnder, Long, HasByte, Stays}
-use Rattle.wire.proofs.Walks.{records-few}
-use Rattle.wire.proofs.Words.{bits-word}
 use Rattle.wire.proofs.Tests.{both-true, both-left, both-right}
 
 -- ---- 32 Bools
@@ -220,25 +217,6 @@ module _ (rs : List Record) (name : List ℕ) (few : length rs ≤ 32) where
     λ e k n. chosen-out (final rs name) e k (final-in rs name few k n),
     λ n. out-chosen (final rs name) (λ k i. n k (in-final rs name k i)),
   )
-
--- ---- what the code's answers say together
-module _ (t name : List ℕ) where
-  abbrev asked : Option ℕ
-  asked = chosen (bits 32 (word (narrowedBy (records t) 0 name (bits 32 (word (started (records t) (length name)))))))
-
-  as-sets : asked ≡ chosen (narrowedBy (records t) 0 name (started (records t) (length name)))
-  as-sets =
-      let set = started (records t) (length name) in
-      let l : length set ≡ 32 = length-started (records t) (length name) in
-      rw (bits-word set 32 l) (ap chosen (bits-word (narrowedBy (records t) 0 name set) 32 (length-narrowed (records t) 0 name set ∙ l)))
-
-  pub lookup-first : (k : ℕ) → (chosen (bits 32 (word (narrowedBy (records t) 0 name (bits 32 (word (started (records t) (length name))))))) ≡ some k)
-      ↔ First (records t) name k
-  lookup-first k = rw as-sets (found-first (records t) name (records-few t) k)
-
-  pub lookup-none : (chosen (bits 32 (word (narrowedBy (records t) 0 name (bits 32 (word (started (records t) (length name))))))) ≡ none)
-      ↔ ((k : ℕ) → Named (records t) k name → ⊥)
-  lookup-none = rw as-sets (found-none (records t) name (records-few t))
 
 -- ---- started with "ab" and "a" taken, then "b" under a table with "abc": chosen
 abbrev only : List ℕ → List Record

@@ -5,7 +5,7 @@
 --   narrowed-none      no byte, no change
 --   has-all-same       a record has all the bytes of a part where the same bytes stand in its name
 --   has-all-long       it has not where the part passes the name's end
---   sieved-lt          the word of a sieve over 32 digits
+--   sieved-lt          the word of a sieve over 32 digits; sieved-set: it stands for the sieve
 --   Sieving            what holds of the walk: what is known and what is due make the whole
 --   sieve-start, sieve-turn, sieve-fits, sieve-end   the walk over records
 --   table-turn, table-fits, table-none, table-out   the walk over a table's places
@@ -22,7 +22,7 @@ use borrow.Author.Tests.{lt-ltb, le-ltb}
 use Rattle.machine.specs.Choice.{pick, both}
 use Rattle.wire.specs.Fields.{sameBytes}
 use Rattle.wire.specs.Table.{Record, recordsIn}
-use Rattle.wire.specs.Lookup.{startedIn, started, has, hasAll, narrowed, narrowedBy, digit, word, bits}
+use Rattle.wire.specs.Lookup.{startedIn, started, has, hasAll, narrowed, narrowedBy, digit, word, bits, setOf}
 use Rattle.wire.specs.Walk.{recordAt, FrontAt, sieve, passed}
 use Rattle.wire.specs.declared.lookup.Sieve.{Sieve}
 use Rattle.wire.specs.declared.table.Front.{Front as CodeFront}
@@ -30,7 +30,7 @@ use Rattle.wire.specs.declared.table.Entry.{Entry}
 use Rattle.wire.specs.declared.table.Front.the-variants.{Record as IsRecord}
 use Rattle.wire.proofs.Places.{found, Ends, found-none}
 use Rattle.wire.proofs.Walks.{records-turn, records-out}
-use Rattle.wire.proofs.Words.{word-lt, length-bits}
+use Rattle.wire.proofs.Words.{word-lt, bits-word, length-bits}
 
 abbrev pub sieved : (Record → Bool) → List Record → List Bool → List Bool
 sieved p rs [] = []
@@ -122,6 +122,9 @@ pub sieved-lt : (p : Record → Bool) (rs : List Record) (w : ℕ) → word (sie
 sieved-lt p rs w =
     let l : length (sieved p rs (bits 32 w)) ≡ 32 = length-sieved p rs (bits 32 w) ∙ length-bits 32 w in
     rw l at (word-lt (sieved p rs (bits 32 w)))
+
+pub sieved-set : (p : Record → Bool) (rs : List Record) (w : ℕ) {n : ℕ} → n ≡ word (sieved p rs (setOf w)) → setOf n ≡ sieved p rs (setOf w)
+sieved-set p rs w e = ap setOf e ∙ bits-word (sieved p rs (setOf w)) 32 (length-sieved p rs (setOf w) ∙ length-bits 32 w)
 
 word-none : (p : Record → Bool) (set : List Bool) → word (sieved p [] set) ≡ 0
 word-none p [] = refl

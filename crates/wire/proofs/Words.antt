@@ -3,10 +3,11 @@
 --   bits-word       the digits of a word are those that it is made of
 --   word-bits       a number is the word of its digits
 --   length-bits     as many digits as asked for
+--   one-number      a set has one number of 32 bits
 --   chosen-bits     the number of the trailing zeros is the lowest one of the set, unless the set is empty
 --   chosen-none     an empty set chooses nothing
 use Prim.Native.Nat.{ℕ, zero, suc, _+_, _*_, _/_, _%_, _^_, _<_}
-use mathlib.Core.Path.{_≡_, refl, ap}
+use mathlib.Core.Path.{_≡_, refl, sym, ap, _∙_}
 use mathlib.Core.Bool.{Bool, true, false}
 use mathlib.Core.List.{List, [], _∷_}
 use mathlib.Core.Option.{none, some}
@@ -16,7 +17,7 @@ use lib.ListN.{length}
 use lib.Dec.{eqb}
 use lib.Count.{trailingZeros, under}
 use borrow.Author.Tests.{eq-eqb, ne-eqb}
-use Rattle.wire.specs.Lookup.{digit, word, bits, chosen, later}
+use Rattle.wire.specs.Lookup.{digit, word, bits, setOf, chosen, later}
 
 pub word-lt : (xs : List Bool) → word xs < 2 ^ length xs
 word-lt [] = omega arith
@@ -57,6 +58,9 @@ pub length-bits : (k w : ℕ) → length (bits k w) ≡ k
 unfolding bits
 length-bits zero w = refl
 length-bits (suc k) w = ap suc (length-bits k (w / 2))
+
+pub one-number : {a b : ℕ} → a < 2 ^ 32 → b < 2 ^ 32 → setOf a ≡ setOf b → a ≡ b
+one-number {a} {b} h k e = sym (word-bits 32 a h) ∙ ap word e ∙ word-bits 32 b k
 
 pub chosen-bits : (k w : ℕ) → w < 2 ^ k → (w ≡ 0 → ⊥) → chosen (bits k w) ≡ some (trailingZeros k w)
 unfolding trailingZeros bits

@@ -5,7 +5,7 @@
 --   narrowed rs i b set   the byte b at the place i "clears each that differs there, lacks that byte or has no record in the table"
 --   narrowedBy rs i bs set   the bytes bs, from the place i on, one after the other
 --   chosen set            "the lowest one left"
---   bits, word            the set as a 32-bit number: record k is its binary digit k
+--   setOf w               the set that the code's 32-bit number w stands for: record k is its binary digit k; word: the number of a set
 --   chosenOf              the value that the code's answer stands for
 use Prim.Native.Nat.{ℕ, zero, suc, _+_, _*_, _/_, _%_}
 use mathlib.Core.Bool.{Bool, true, false}
@@ -67,3 +67,6 @@ word (x ∷ xs) = digit x + 2 * word xs
 unfoldable pub bits : ℕ → ℕ → List Bool
 bits zero w = []
 bits (suc k) w = eqb (w % 2) 1 ∷ bits k (w / 2)
+
+abbrev pub setOf : ℕ → List Bool
+setOf w = bits 32 w

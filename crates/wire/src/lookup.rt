@@ -9,7 +9,7 @@ ghost use mathlib.Core.Path.{_≡_};
 ghost use Prim.Native.Nat.{_^_, _<_};
 ghost use lib.ListN.{length};
 ghost use Rattle.wire.specs.Table.{records};
-ghost use Rattle.wire.specs.Lookup.{hasAll, started, narrowedBy, chosen, chosenOf, word, bits};
+ghost use Rattle.wire.specs.Lookup.{hasAll, started, narrowedBy, chosen, chosenOf, setOf};
 ghost use Rattle.wire.specs.Walk.{recordAt, Inside, sieve, share, passed};
 
 // The number of the export that fits, if one does.
@@ -81,7 +81,7 @@ fn agrees(table: &[u8], e: Entry, at: usize, part: &[u8]) -> bool
 
 // The exports whose names are that long.
 pub fn started(table: &[u8], len: usize) -> u32
-    ensures { λ r. ⌜ r ≡ word (started (records (now (table .entry))) len) ⌝ }
+    ensures { λ r. ⌜ setOf r ≡ started (records (now (table .entry))) len ⌝ }
 {
     let mut s = Sieve::new(0xFFFF_FFFF);
     let mut at = 1;
@@ -104,7 +104,7 @@ pub fn started(table: &[u8], len: usize) -> u32
 
 // The exports of the set that have these bytes in their names, from the place `at` on.
 pub fn narrowed(set: u32, table: &[u8], at: usize, part: &[u8]) -> u32
-    ensures { λ r. ⌜ r ≡ word (narrowedBy (records (now (table .entry))) at (now (part .entry)) (bits 32 set)) ⌝ }
+    ensures { λ r. ⌜ setOf r ≡ narrowedBy (records (now (table .entry))) at (now (part .entry)) (setOf set) ⌝ }
 {
     if part.len() == 0 {
         return set;
@@ -130,7 +130,7 @@ pub fn narrowed(set: u32, table: &[u8], at: usize, part: &[u8]) -> u32
 
 // The lowest export of the set.
 pub fn lowest(set: u32) -> Chosen
-    ensures { λ r. ⌜ chosenOf r ≡ chosen (bits 32 set) ⌝ }
+    ensures { λ r. ⌜ chosenOf r ≡ chosen (setOf set) ⌝ }
 {
     if set == 0 {
         Chosen::Nothing

@@ -2,8 +2,11 @@
 use mathlib.Core.Path.{_≡_, refl}
 use native.Mathlib.Omega.{arith}
 use borrow.Author.Needs.{needs}
+use lib.Dec.{eqb}
 use lib.ListN.{length}
 use Rattle.machine.proofs.Leaves.{absorbs-idle}
+use Rattle.wire.specs.Lookup.{setOf}
+use Rattle.wire.proofs.Tests.{both-right}
 use Rattle.server.proofs.Bounds.{some-within, passing-bounds, head-below}
 use Rattle.server.proofs.absorb_shaking.Statement.{statement}
 use Rattle.server.proofs.absorb_shaking.Tie as tie
@@ -27,7 +30,7 @@ enum-known-p-3 : tie.Need-enum-known-p-3
 enum-known-p-3 c = search needs
 
 take-name-requires : tie.Need-take-name-requires
-take-name-requires c κs = some-within (c .before .p3 .given .0 .1 .1 .1 .0) (c .before .p3 .given .0 .1 .1 .1 .1 .0) 100000 (rw (c .before .p3 .given .1) at (c .before .before .before .before .before .pre .1))
+take-name-requires c κs = some-within (c .before .p3 .given .0 .1 .1 .1 .0) (c .before .p3 .given .0 .1 .1 .1 .1 .0) 100000 (both-right (eqb (length (setOf (c .before .p3 .given .0 .1 .0))) 32) _ (rw (c .before .p3 .given .1) at (c .before .before .before .before .before .pre .1)))
 
 enum-known-p-4 : tie.Need-enum-known-p-4
 enum-known-p-4 c = search needs

@@ -5,6 +5,7 @@ use native.Mathlib.Omega.{arith}
 use borrow.Author.Needs.{needs}
 use lib.ListN.{length}
 use lib.Seq.{length-take-le}
+use Rattle.wire.specs.Lookup.{setOf}
 use Rattle.server.proofs.Names.{name-leaf}
 use Rattle.server.proofs.handshake.take_name.Statement.{statement}
 use Rattle.server.proofs.handshake.take_name.Tie as tie
@@ -35,7 +36,7 @@ returns c =
     let a = c .before .before .before .before .before .before .before .args in
     let n = c .before .before .before .before .least .result in
     let h : n ≤ length (a .input .now) = omega (arith, c .before .before .before .before .least .ensures) in
-    λ m. name-leaf _ _ m (a .fits) (a .text) (a .at) (omega arith) (c .before .before .before .before .before .before .before .pre .0) (c .before .before .before .before .least .ensures)
+    λ m. name-leaf _ _ m (setOf (a .fits)) (a .text) (a .at) (c .before .before .before .before .before .before .before .pre .0) (c .before .before .before .before .least .ensures)
     (rw (length-take-le n (a .input .now) h) (c .naming .ensures _ ∙ rw (c .before .run .ensures, c .before .before .narrowed .ensures)))
 
 pub take-name-spec : {M : Type 1} → statement M

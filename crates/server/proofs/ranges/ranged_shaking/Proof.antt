@@ -3,6 +3,7 @@ use mathlib.Core.Path.{_≡_, _∙_}
 use native.Mathlib.Omega.{arith}
 use borrow.Author.Needs.{needs}
 use lib.ListN.{length}
+use Rattle.wire.proofs.Words.{length-bits}
 use Rattle.server.proofs.Tests.{head-short}
 use Rattle.server.proofs.ranges.ranged_shaking.Statement.{statement}
 use Rattle.server.proofs.ranges.ranged_shaking.Tie as tie
@@ -77,7 +78,7 @@ returns-3 : tie.Need-returns-3
 returns-3 c = rw (c .before .p3 .given .1) (head-short (c .before .before .before .args .head) (c .before .p3 .given .0 .1 .0) 16 (long (c .before .before .before)) (omega arith))
 
 returns-4 : tie.Need-returns-4
-returns-4 c = c .both .ensures ∙ rw (c .before .fits2 .ensures, c .before .before .before .p4 .given .1)
+returns-4 c = c .both .ensures ∙ rw (c .before .fits2 .ensures, c .before .before .before .p4 .given .1, length-bits 32 (c .before .before .before .p4 .given .0 .1 .0))
 
 returns-5 : tie.Need-returns-5
 returns-5 c = c .passed .ensures ∙ rw (c .before .before .p5 .given .1)

@@ -8,10 +8,9 @@ use lib.ListN.{length, drop}
 use denote.Ref.{now}
 use borrow.Author.Needs.{needs}
 use Rattle.wire.specs.Table.{Record, recordsIn, records}
-use Rattle.wire.specs.Lookup.{hasAll, narrowedBy, word, bits}
+use Rattle.wire.specs.Lookup.{hasAll, narrowedBy, word, setOf}
 use Rattle.wire.proofs.Places.{found-inside}
-use Rattle.wire.proofs.Words.{word-bits}
-use Rattle.wire.proofs.Sieves.{sieved, sieved-lt, narrowed-sieved, narrowed-none, Sieving, sieve-start, table-turn, table-fits, table-none, table-out}
+use Rattle.wire.proofs.Sieves.{sieved, sieved-lt, sieved-set, narrowed-sieved, narrowed-none, Sieving, sieve-start, table-turn, table-fits, table-none, table-out}
 use Rattle.wire.proofs.lookup.narrowed.Statement.{statement}
 use Rattle.wire.proofs.lookup.narrowed.Tie as tie
 
@@ -19,11 +18,12 @@ abbrev fitting : ℕ → List ℕ → Record → Bool
 fitting at part r = hasAll r at part
 
 abbrev all : ℕ → List ℕ → ℕ → List ℕ → ℕ
-all set table at part = word (sieved (fitting at part) (records table) (bits 32 set))
+all set table at part = word (sieved (fitting at part) (records table) (setOf set))
 
-as-narrowed : (set : ℕ) (table : List ℕ) (at : ℕ) (part : List ℕ) → (length part ≡ 0 → ⊥)
-    → all set table at part ≡ word (narrowedBy (records table) at part (bits 32 set))
-as-narrowed set table at part h = ap word (sym (narrowed-sieved (records table) at part (bits 32 set) (omega arith)))
+as-narrowed : (set : ℕ) (table : List ℕ) (at : ℕ) (part : List ℕ) → (length part ≡ 0 → ⊥) → {n : ℕ} → n ≡ all set table at part
+    → setOf n ≡ narrowedBy (records table) at part (setOf set)
+as-narrowed set table at part h e =
+    sieved-set (fitting at part) (records table) set e ∙ sym (narrowed-sieved (records table) at part (setOf set) (omega arith))
 
 abbrev Inv-loop : tie.InvT-loop
 Inv-loop set table at part s₀ place₀ left₀ s place left = Sieving (fitting at part) (all set table at part) left (recordsIn left (drop place table)) s
@@ -34,8 +34,7 @@ abbrev μ-loop : tie.MeasureT-loop
 returns : tie.Need-returns Inv-loop μ-loop
 returns c =
     let a = c .before .before .before .args in
-    let same = narrowed-none (records (now (a .table))) (a .at) (now (a .part)) (bits 32 (a .set)) (c .if1 .taken) in
-    sym (ap word same ∙ word-bits 32 (a .set) (c .before .before .before .fits .set .fits))
+    sym (narrowed-none (records (now (a .table))) (a .at) (now (a .part)) (setOf (a .set)) (c .if1 .taken))
 
 new-requires : tie.Need-new-requires Inv-loop μ-loop
 new-requires c κs = search needs
@@ -55,8 +54,8 @@ enum-told c = search needs
 returns-2 : tie.Need-returns-2 Inv-loop μ-loop
 returns-2 c =
     let a = c .before .before .before .before .before .before .before .before .before .args in
-    table-none (c .before .before .before .before .loop .inv) (c .before .before .front-at .ensures) (c .enum-told .given .1) tt
-    ∙ as-narrowed (a .set) (now (a .table)) (a .at) (now (a .part)) (omega arith)
+    as-narrowed (a .set) (now (a .table)) (a .at) (now (a .part)) (omega arith)
+    (table-none (c .before .before .before .before .loop .inv) (c .before .before .front-at .ensures) (c .enum-told .given .1) tt)
 
 enum-told-2 : tie.Need-enum-told-2 Inv-loop μ-loop
 enum-told-2 c = search needs
@@ -64,8 +63,8 @@ enum-told-2 c = search needs
 returns-3 : tie.Need-returns-3 Inv-loop μ-loop
 returns-3 c =
     let a = c .before .before .before .before .before .before .before .before .before .args in
-    table-none (c .before .before .before .before .loop .inv) (c .before .before .front-at .ensures) (c .enum-told2 .given .1) tt
-    ∙ as-narrowed (a .set) (now (a .table)) (a .at) (now (a .part)) (omega arith)
+    as-narrowed (a .set) (now (a .table)) (a .at) (now (a .part)) (omega arith)
+    (table-none (c .before .before .before .before .loop .inv) (c .before .before .front-at .ensures) (c .enum-told2 .given .1) tt)
 
 enum-known-f : tie.Need-enum-known-f Inv-loop μ-loop
 enum-known-f c = search needs
@@ -96,8 +95,7 @@ returns-4 : tie.Need-returns-4 Inv-loop μ-loop
 returns-4 c =
     let a = c .before .before .before .before .before .before .args in
     let l = c .before .loop in
-    table-out (l .place) (now (a .table)) (l .inv) (omega arith)
-    ∙ as-narrowed (a .set) (now (a .table)) (a .at) (now (a .part)) (omega arith)
+    as-narrowed (a .set) (now (a .table)) (a .at) (now (a .part)) (omega arith) (table-out (l .place) (now (a .table)) (l .inv) (omega arith))
 
 pub narrowed-spec : {M : Type 1} → statement M
 narrowed-spec =

@@ -9,11 +9,11 @@ use lib.ListN.{length, drop}
 use denote.Ref.{now}
 use borrow.Author.Needs.{needs}
 use Rattle.wire.specs.Table.{Record, recordsIn, records}
-use Rattle.wire.specs.Lookup.{started, word, bits}
+use Rattle.wire.specs.Lookup.{started, word, setOf}
 use Rattle.wire.specs.Walk.{recordAt, Inside}
 use Rattle.wire.specs.declared.table.Entry.{Entry}
 use Rattle.wire.proofs.Places.{found-inside, name-length}
-use Rattle.wire.proofs.Sieves.{sieved, sieved-lt, started-sieved, Sieving, sieve-start, table-turn, table-fits, table-none, table-out}
+use Rattle.wire.proofs.Sieves.{sieved, sieved-lt, sieved-set, started-sieved, Sieving, sieve-start, table-turn, table-fits, table-none, table-out}
 use Rattle.wire.proofs.lookup.started.Statement.{statement}
 use Rattle.wire.proofs.lookup.started.Tie as tie
 
@@ -21,10 +21,10 @@ abbrev long : ℕ → Record → Bool
 long len r = eqb (length (r .name)) len
 
 abbrev all : List ℕ → ℕ → ℕ
-all table len = word (sieved (long len) (records table) (bits 32 0xFFFFFFFF))
+all table len = word (sieved (long len) (records table) (setOf 0xFFFFFFFF))
 
-as-started : (table : List ℕ) (len : ℕ) → all table len ≡ word (started (records table) len)
-as-started table len = ap word (sym (started-sieved (records table) len))
+as-started : (table : List ℕ) (len : ℕ) {n : ℕ} → n ≡ all table len → setOf n ≡ started (records table) len
+as-started table len e = sieved-set (long len) (records table) 0xFFFFFFFF e ∙ sym (started-sieved (records table) len)
 
 as-long : {t : List ℕ} {e : Entry} → Inside t e → (len : ℕ) → eqb (e .len) len ≡ long len (recordAt t e)
 as-long i len = ap (λ (n : ℕ). eqb n len) (sym (name-length i))
@@ -53,7 +53,7 @@ enum-told c = search needs
 returns : tie.Need-returns Inv-loop μ-loop
 returns c =
     let a = c .before .before .before .before .before .before .before .args in
-    table-none (c .before .before .before .before .loop .inv) (c .before .before .front-at .ensures) (c .enum-told .given .1) tt ∙ as-started (now (a .table)) (a .len)
+    as-started (now (a .table)) (a .len) (table-none (c .before .before .before .before .loop .inv) (c .before .before .front-at .ensures) (c .enum-told .given .1) tt)
 
 enum-told-2 : tie.Need-enum-told-2 Inv-loop μ-loop
 enum-told-2 c = search needs
@@ -61,7 +61,7 @@ enum-told-2 c = search needs
 returns-2 : tie.Need-returns-2 Inv-loop μ-loop
 returns-2 c =
     let a = c .before .before .before .before .before .before .before .args in
-    table-none (c .before .before .before .before .loop .inv) (c .before .before .front-at .ensures) (c .enum-told2 .given .1) tt ∙ as-started (now (a .table)) (a .len)
+    as-started (now (a .table)) (a .len) (table-none (c .before .before .before .before .loop .inv) (c .before .before .front-at .ensures) (c .enum-told2 .given .1) tt)
 
 enum-known-f : tie.Need-enum-known-f Inv-loop μ-loop
 enum-known-f c = search needs
@@ -91,7 +91,7 @@ returns-3 : tie.Need-returns-3 Inv-loop μ-loop
 returns-3 c =
     let a = c .before .before .before .before .args in
     let l = c .before .loop in
-    table-out (l .at) (now (a .table)) (l .inv) (omega arith) ∙ as-started (now (a .table)) (a .len)
+    as-started (now (a .table)) (a .len) (table-out (l .at) (now (a .table)) (l .inv) (omega arith))
 
 pub started-spec : {M : Type 1} → statement M
 started-spec =

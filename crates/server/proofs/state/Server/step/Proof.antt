@@ -45,8 +45,8 @@ same-length-2 c = search needs
 returns-2 : tie.Need-returns-2
 returns-2 c =
     let t = c .before .tidied .ensures in
-    let v = stands-for (view (c .before .before .before .before .before .before .advance .result .state)) t in
     let fine = sym (c .before .before .before .before .before .before .before .before .before .before .refusal .ensures) ∙ c .before .before .before .before .before .before .before .before .before .if1 .left in
+    let v = stands-for (view (c .before .before .before .before .before .before .advance .result .state)) (next-good (c .before .before .before .before .before .before .advance .ensures .goes .moves) (accepted (now (c .before .before .before .before .before .before .before .before .before .before .before .before .before .before .before .args .table)) (length (now (c .before .before .before .before .before .before .before .before .before .before .before .before .before .before .before .args .image))) (c .before .before .before .before .before .before .before .before .before .before .before .before .before .before .before .args .self) fine) .within) t in
     record {
       refuses = λ z. absurd (z fine);
       accepts = λ _. record { steps = rw v (c .before .before .before .before .before .before .advance .ensures); one-struct = t ∙ ap code (sym v); outcome = c .told .ensures };
