@@ -1,10 +1,11 @@
 // An NBD server without sockets: the host keeps the wire, lends slices, and hands a state in and gets it back.
-pub mod handshake;
+mod handshake;
+mod idle;
 pub mod oldstyle;
-pub mod ranges;
-pub mod request;
+mod ranges;
+mod request;
 pub mod state;
-pub mod transmission;
+mod transmission;
 
 use machine::copy;
 use state::Gave;
@@ -56,13 +57,6 @@ fn absorb_shaking(head: [u8; 28], p: Handshake, table: &[u8], input: &[u8]) -> T
     requires { ⌜ (0 < length (now input)) × (rangedShaking (handshakeOf head p) ≡ true) ⌝ }
     ensures { λ r. ⌜ ((m : List ℕ) → Absorbs (turn (now (table .entry))) (on (Shaking (handshakeOf head p)) m) (now (input .entry)) (r .taken) (on (view (r .state)) m)) ⌝ }
 {
-    let same = Took {
-        state: Server {
-            phase: Phase::Shaking(p),
-            head,
-        },
-        taken: 0,
-    };
     match p {
         Handshake::ClientFlags { have } => handshake::take_flags(head, have, input),
         Handshake::OptionHead { zeroes, have } => handshake::take_option(
@@ -85,19 +79,19 @@ fn absorb_shaking(head: [u8; 28], p: Handshake, table: &[u8], input: &[u8]) -> T
             len,
             left,
         } => handshake::pass(head, zeroes, option, len, left, input.len()),
-        Handshake::Greeting { left: _ } => same,
-        Handshake::Listing { zeroes: _, left: _ } => same,
+        Handshake::Greeting { left: _ } => idle::takes_none(Phase::Shaking(p), head),
+        Handshake::Listing { zeroes: _, left: _ } => idle::takes_none(Phase::Shaking(p), head),
         Handshake::Declining {
             zeroes: _,
             option: _,
             left: _,
-        } => same,
-        Handshake::Aborting { left: _ } => same,
+        } => idle::takes_none(Phase::Shaking(p), head),
+        Handshake::Aborting { left: _ } => idle::takes_none(Phase::Shaking(p), head),
         Handshake::Exporting {
             zeroes: _,
             export: _,
             left: _,
-        } => same,
+        } => idle::takes_none(Phase::Shaking(p), head),
     }
 }
 
@@ -111,13 +105,6 @@ fn absorb_serving(
     requires { ⌜ (0 < length (now input)) × (rangedServing e (transmissionOf head p) ≡ true) × (e .start + e .size ≤ length (now image)) ⌝ }
     ensures { λ r. ⌜ ((t : List ℕ) → Absorbs (turn t) (on (Serving e (transmissionOf head p)) (now (image .entry))) (now (input .entry)) (r .taken) (on (view (r .state)) (now (image .exit)))) ⌝ }
 {
-    let same = Took {
-        state: Server {
-            phase: Phase::Serving(e, p),
-            head,
-        },
-        taken: 0,
-    };
     match p {
         Transmission::Header { have } => transmission::take_header(head, e, have, input),
         Transmission::Storing { handle, off, left } => {
@@ -136,8 +123,8 @@ fn absorb_serving(
             left: _,
             off: _,
             len: _,
-        } => same,
-        Transmission::Sending { off: _, left: _ } => same,
+        } => idle::takes_none(Phase::Serving(e, p), head),
+        Transmission::Sending { off: _, left: _ } => idle::takes_none(Phase::Serving(e, p), head),
     }
 }
 
@@ -163,13 +150,6 @@ fn emit_shaking(head: [u8; 28], p: Handshake, room: &mut [u8]) -> Gave
     requires { ⌜ rangedShaking (handshakeOf head p) ≡ true ⌝ }
     ensures { λ r. ⌜ ((t m : List ℕ) → Emits (turn t) (on (Shaking (handshakeOf head p)) m) (now (room .entry)) (r .given) (on (view (r .state)) m) (now (room .exit))) ⌝ }
 {
-    let same = Gave {
-        state: Server {
-            phase: Phase::Shaking(p),
-            head,
-        },
-        given: 0,
-    };
     match p {
         Handshake::Greeting { left } => handshake::greet(head, left, room),
         Handshake::Listing { zeroes, left } => handshake::list(head, zeroes, left, room),
@@ -184,21 +164,21 @@ fn emit_shaking(head: [u8; 28], p: Handshake, room: &mut [u8]) -> Gave
             export,
             left,
         } => handshake::export(head, zeroes, export, left, room),
-        Handshake::ClientFlags { have: _ } => same,
-        Handshake::OptionHead { zeroes: _, have: _ } => same,
+        Handshake::ClientFlags { have: _ } => idle::gives_none(Phase::Shaking(p), head),
+        Handshake::OptionHead { zeroes: _, have: _ } => idle::gives_none(Phase::Shaking(p), head),
         Handshake::Naming {
             zeroes: _,
             fits: _,
             text: _,
             at: _,
             left: _,
-        } => same,
+        } => idle::gives_none(Phase::Shaking(p), head),
         Handshake::Passing {
             zeroes: _,
             option: _,
             len: _,
             left: _,
-        } => same,
+        } => idle::gives_none(Phase::Shaking(p), head),
     }
 }
 
@@ -206,13 +186,6 @@ fn emit_serving(head: [u8; 28], e: Export, p: Transmission, room: &mut [u8], ima
     requires { ⌜ (rangedServing e (transmissionOf head p) ≡ true) × (e .start + e .size ≤ length (now image)) ⌝ }
     ensures { λ r. ⌜ ((t : List ℕ) → Emits (turn t) (on (Serving e (transmissionOf head p)) (now (image .entry))) (now (room .entry)) (r .given) (on (view (r .state)) (now (image .entry))) (now (room .exit))) ⌝ }
 {
-    let same = Gave {
-        state: Server {
-            phase: Phase::Serving(e, p),
-            head,
-        },
-        given: 0,
-    };
     match p {
         Transmission::Replying {
             error,
@@ -226,17 +199,17 @@ fn emit_serving(head: [u8; 28], e: Export, p: Transmission, room: &mut [u8], ima
             let b = a + e.size as usize;
             transmission::send(head, e, off, left, &image[a..b], room)
         }
-        Transmission::Header { have: _ } => same,
+        Transmission::Header { have: _ } => idle::gives_none(Phase::Serving(e, p), head),
         Transmission::Storing {
             handle: _,
             off: _,
             left: _,
-        } => same,
+        } => idle::gives_none(Phase::Serving(e, p), head),
         Transmission::Dropping {
             error: _,
             handle: _,
             left: _,
-        } => same,
+        } => idle::gives_none(Phase::Serving(e, p), head),
     }
 }
 

@@ -50,8 +50,14 @@ discard-requires c κs = dropping-some (c .before .p3 .given .0 .0) _ (c .before
 enum-told : tie.Need-enum-told
 enum-told c = search needs
 
+takes-none-requires : tie.Need-takes-none-requires
+takes-none-requires c κs = search needs
+
 enum-told-2 : tie.Need-enum-told-2
 enum-told-2 c = search needs
+
+takes-none-requires-2 : tie.Need-takes-none-requires-2
+takes-none-requires-2 c κs = search needs
 
 returns : tie.Need-returns
 returns c = λ t. rw (c .before .before .p .given .1) (c .take-header .ensures t _)
@@ -70,10 +76,10 @@ returns-3 : tie.Need-returns-3
 returns-3 c = λ t. rw (c .before .before .p3 .given .1) (c .discard .ensures t _ _ refl)
 
 returns-4 : tie.Need-returns-4
-returns-4 c = λ t. absorbs-idle (rw (c .enum-told .given .1))
+returns-4 c = λ t. rw (c .takes-none .ensures) (absorbs-idle (rw (c .before .enum-told .given .1)))
 
 returns-5 : tie.Need-returns-5
-returns-5 c = λ t. absorbs-idle (rw (c .enum-told2 .given .1))
+returns-5 c = λ t. rw (c .takes-none2 .ensures) (absorbs-idle (rw (c .before .enum-told2 .given .1)))
 
 pub absorb-serving-spec : {M : Type 1} → statement M
 absorb-serving-spec =
@@ -90,7 +96,9 @@ absorb-serving-spec =
     enum-known-p-3
     discard-requires
     enum-told
+    takes-none-requires
     enum-told-2
+    takes-none-requires-2
     returns
     same-length
     returns-2

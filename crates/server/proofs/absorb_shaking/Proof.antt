@@ -41,17 +41,32 @@ pass-requires c κs = passing-bounds (c .before .p4 .given .0 .1 .0) (c .before 
 enum-told : tie.Need-enum-told
 enum-told c = search needs
 
+takes-none-requires : tie.Need-takes-none-requires
+takes-none-requires c κs = search needs
+
 enum-told-2 : tie.Need-enum-told-2
 enum-told-2 c = search needs
+
+takes-none-requires-2 : tie.Need-takes-none-requires-2
+takes-none-requires-2 c κs = search needs
 
 enum-told-3 : tie.Need-enum-told-3
 enum-told-3 c = search needs
 
+takes-none-requires-3 : tie.Need-takes-none-requires-3
+takes-none-requires-3 c κs = search needs
+
 enum-told-4 : tie.Need-enum-told-4
 enum-told-4 c = search needs
 
+takes-none-requires-4 : tie.Need-takes-none-requires-4
+takes-none-requires-4 c κs = search needs
+
 enum-told-5 : tie.Need-enum-told-5
 enum-told-5 c = search needs
+
+takes-none-requires-5 : tie.Need-takes-none-requires-5
+takes-none-requires-5 c κs = search needs
 
 returns : tie.Need-returns
 returns c = λ m. rw (c .before .before .p .given .1) (c .take-flags .ensures _ m)
@@ -66,19 +81,19 @@ returns-4 : tie.Need-returns-4
 returns-4 c = λ m. rw (c .before .before .p4 .given .1) (c .pass .ensures _ m _ refl)
 
 returns-5 : tie.Need-returns-5
-returns-5 c = λ m. absorbs-idle (rw (c .enum-told .given .1))
+returns-5 c = λ m. rw (c .takes-none .ensures) (absorbs-idle (rw (c .before .enum-told .given .1)))
 
 returns-6 : tie.Need-returns-6
-returns-6 c = λ m. absorbs-idle (rw (c .enum-told2 .given .1))
+returns-6 c = λ m. rw (c .takes-none2 .ensures) (absorbs-idle (rw (c .before .enum-told2 .given .1)))
 
 returns-7 : tie.Need-returns-7
-returns-7 c = λ m. absorbs-idle (rw (c .enum-told3 .given .1))
+returns-7 c = λ m. rw (c .takes-none3 .ensures) (absorbs-idle (rw (c .before .enum-told3 .given .1)))
 
 returns-8 : tie.Need-returns-8
-returns-8 c = λ m. absorbs-idle (rw (c .enum-told4 .given .1))
+returns-8 c = λ m. rw (c .takes-none4 .ensures) (absorbs-idle (rw (c .before .enum-told4 .given .1)))
 
 returns-9 : tie.Need-returns-9
-returns-9 c = λ m. absorbs-idle (rw (c .enum-told5 .given .1))
+returns-9 c = λ m. rw (c .takes-none5 .ensures) (absorbs-idle (rw (c .before .enum-told5 .given .1)))
 
 pub absorb-shaking-spec : {M : Type 1} → statement M
 absorb-shaking-spec =
@@ -93,10 +108,15 @@ absorb-shaking-spec =
     enum-known-p-4
     pass-requires
     enum-told
+    takes-none-requires
     enum-told-2
+    takes-none-requires-2
     enum-told-3
+    takes-none-requires-3
     enum-told-4
+    takes-none-requires-4
     enum-told-5
+    takes-none-requires-5
     returns
     returns-2
     returns-3

@@ -40,11 +40,20 @@ send-requires c κs =
 enum-told : tie.Need-enum-told
 enum-told c = search needs
 
+gives-none-requires : tie.Need-gives-none-requires
+gives-none-requires c κs = search needs
+
 enum-told-2 : tie.Need-enum-told-2
 enum-told-2 c = search needs
 
+gives-none-requires-2 : tie.Need-gives-none-requires-2
+gives-none-requires-2 c κs = search needs
+
 enum-told-3 : tie.Need-enum-told-3
 enum-told-3 c = search needs
+
+gives-none-requires-3 : tie.Need-gives-none-requires-3
+gives-none-requires-3 c κs = search needs
 
 same-length : tie.Need-same-length
 same-length c = search needs
@@ -63,13 +72,13 @@ returns-2 c =
     λ t. rw (c .before .before .before .before .before .before .p2 .given .1) (send-leaf t (a .e) (c .before .before .before .before .before .before .p2 .given .0 .0) (c .before .before .before .before .before .before .p2 .given .0 .1 .0) (a .image .now) (c .before .before .before .before .before .before .before .before .before .before .pre .1) (b .0) (b .1) (rw k at (c .before .before .send .ensures)))
 
 returns-3 : tie.Need-returns-3
-returns-3 c = λ t. emits-idle (rw (c .enum-told .given .1))
+returns-3 c = λ t. rw (c .gives-none .ensures) (emits-idle (rw (c .before .enum-told .given .1)))
 
 returns-4 : tie.Need-returns-4
-returns-4 c = λ t. emits-idle (rw (c .enum-told2 .given .1))
+returns-4 c = λ t. rw (c .gives-none2 .ensures) (emits-idle (rw (c .before .enum-told2 .given .1)))
 
 returns-5 : tie.Need-returns-5
-returns-5 c = λ t. emits-idle (rw (c .enum-told3 .given .1))
+returns-5 c = λ t. rw (c .gives-none3 .ensures) (emits-idle (rw (c .before .enum-told3 .given .1)))
 
 pub emit-serving-spec : {M : Type 1} → statement M
 emit-serving-spec =
@@ -84,8 +93,11 @@ emit-serving-spec =
     part-send-end
     send-requires
     enum-told
+    gives-none-requires
     enum-told-2
+    gives-none-requires-2
     enum-told-3
+    gives-none-requires-3
     same-length
     returns
     same-length-2

@@ -39,14 +39,26 @@ export-requires c κs = exporting-bounds ((c .before .before .p5 .given .0 .1 .0
 enum-told : tie.Need-enum-told
 enum-told c = search needs
 
+gives-none-requires : tie.Need-gives-none-requires
+gives-none-requires c κs = search needs
+
 enum-told-2 : tie.Need-enum-told-2
 enum-told-2 c = search needs
+
+gives-none-requires-2 : tie.Need-gives-none-requires-2
+gives-none-requires-2 c κs = search needs
 
 enum-told-3 : tie.Need-enum-told-3
 enum-told-3 c = search needs
 
+gives-none-requires-3 : tie.Need-gives-none-requires-3
+gives-none-requires-3 c κs = search needs
+
 enum-told-4 : tie.Need-enum-told-4
 enum-told-4 c = search needs
+
+gives-none-requires-4 : tie.Need-gives-none-requires-4
+gives-none-requires-4 c κs = search needs
 
 same-length : tie.Need-same-length
 same-length c = search needs
@@ -79,16 +91,16 @@ returns-5 : tie.Need-returns-5
 returns-5 c = λ t m. rw (c .before .before .before .before .before .p5 .given .1) (c .before .before .export .ensures t m)
 
 returns-6 : tie.Need-returns-6
-returns-6 c = λ t m. emits-idle (rw (c .enum-told .given .1))
+returns-6 c = λ t m. rw (c .gives-none .ensures) (emits-idle (rw (c .before .enum-told .given .1)))
 
 returns-7 : tie.Need-returns-7
-returns-7 c = λ t m. emits-idle (rw (c .enum-told2 .given .1))
+returns-7 c = λ t m. rw (c .gives-none2 .ensures) (emits-idle (rw (c .before .enum-told2 .given .1)))
 
 returns-8 : tie.Need-returns-8
-returns-8 c = λ t m. emits-idle (rw (c .enum-told3 .given .1))
+returns-8 c = λ t m. rw (c .gives-none3 .ensures) (emits-idle (rw (c .before .enum-told3 .given .1)))
 
 returns-9 : tie.Need-returns-9
-returns-9 c = λ t m. emits-idle (rw (c .enum-told4 .given .1))
+returns-9 c = λ t m. rw (c .gives-none4 .ensures) (emits-idle (rw (c .before .enum-told4 .given .1)))
 
 pub emit-shaking-spec : {M : Type 1} → statement M
 emit-shaking-spec =
@@ -105,9 +117,13 @@ emit-shaking-spec =
     enum-known-p-5
     export-requires
     enum-told
+    gives-none-requires
     enum-told-2
+    gives-none-requires-2
     enum-told-3
+    gives-none-requires-3
     enum-told-4
+    gives-none-requires-4
     same-length
     returns
     same-length-2
