@@ -9,6 +9,7 @@ pub mod Bounds
 pub mod Records
 pub mod Kept
 pub mod Tidy
+pub mod Numbers
 pub mod Result
 pub mod Cutting
 pub mod Whole

@@ -32,7 +32,7 @@ use Rattle.server.specs.Session.{Handshake, Greeting, ClientFlags, Optio
 use Rattle.server.specs.Session.{State, Shaking, Serving, Over}
 use Rattle.server.specs.View.{view, code}
 use Rattle.server.specs.Ranges.{tidy, used, ranged, inRange, outside, outsideShaking, lent, refusal, Good}
-use Rattle.server.specs.Contract.{outcomeOf, Serves, owesOutput, cutOff, closedAt, endOfInput, headerOf, Heads}
+use Rattle.server.specs.Contract.{outcomeOf, Serves, owesOutput, cutOff, closedAt, endOfInput, Closes, headerOf, Heads}
 use Rattle.server.specs.History.{Reached, fresh, stepped, closed}
 use Rattle.server.specs.declared.state.Server.{Server}
 use Rattle.server.specs.declared.Stepped.{Stepped}
@@ -69,8 +69,8 @@ same-result {self} {t} {m} {r = r} {r′ = r′} {m′ = m′} {m″ = m″} {ro
         let o : r .outcome ≡ r′ .outcome = a .outcome ∙ ap outcomeOf v ∙ sym (b .outcome) in
         (stepped-same c (s .same-taken) (s .same-given) o, cc (s .same-place), s .same-room)
 
-pub same-closed : (self : Server) {r r′ : Closed} → r ≡ endOfInput self → r′ ≡ endOfInput self → r ≡ r′
-same-closed self p q = p ∙ sym q
+pub same-closed : {self : Server} {r r′ : Closed} → Closes self r → Closes self r′ → r ≡ r′
+same-closed p q = p .result ∙ sym (q .result)
 
 pub same-header : {room : List ℕ} {size flags : ℕ} {r r′ : HeaderAnswer} {room′ room″ : List ℕ}
     → Heads room size flags r room′ → Heads room size flags r′ room″ → (r ≡ r′) × (room′ ≡ room″)

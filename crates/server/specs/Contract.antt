@@ -1,9 +1,9 @@
 -- What the public functions ensure.
---   Serves        a step: refused, with nothing changed; or as far as the input and the room go
---   endOfInput    the host reports the end of input
---   Heads         the old-style header
 --   numberOf      01's number for each outcome
-use Prim.Native.Nat.{ℕ}
+--   Serves        a step: refused, with nothing changed; or as far as the input and the room go; stepNumber: its number
+--   Closes        the host reports the end of input: endOfInput; endNumber: its number
+--   Heads         the old-style header; headerOf: 01's number for each answer
+use Prim.Native.Nat.{ℕ, zero, suc}
 use mathlib.Core.Path.{_≡_}
 use mathlib.Core.Bool.{Bool}
 use mathlib.Core.List.{List, [], _++_}
@@ -37,6 +37,13 @@ outcomeOf (Shaking p) = GoingOn
 outcomeOf (Serving e p) = GoingOn
 outcomeOf (Over n) = Ended n
 
+-- the number of a step: why it was refused, where it was, or what the session has ended with
+abbrev pub stepNumber : ℕ → State → Option ℕ
+stepNumber zero (Shaking p) = none
+stepNumber zero (Serving e p) = none
+stepNumber zero (Over n) = some n
+stepNumber (suc why) x = some (suc why)
+
 module _ (self : Server) (t m input room : List ℕ) (r : Stepped) (m′ room′ : List ℕ) where
   -- "All others change nothing at all"
   pub record Refuses : Type 0 where
@@ -53,6 +60,7 @@ module _ (self : Server) (t m input room : List ℕ) (r : Stepped) (m′ room′
   pub record Serves : Type 0 where
     pub refuses : (refusal t (length m) self ≡ 0 → ⊥) → Refuses
     pub accepts : refusal t (length m) self ≡ 0 → Accepts
+    pub number : numberOf (r .outcome) ≡ stepNumber (refusal t (length m) self) (view (r .state))
 
 -- whether output is owed shows without a table or an image
 abbrev pub owesOutput : State → Bool
@@ -69,6 +77,18 @@ closedAt s (Over n) = record { state = s; outcome = Ended n }
 
 abbrev pub endOfInput : Server → Closed
 endOfInput s = pick (inRange s) (closedAt s (view s)) (record { state = s; outcome = Refused 27 })
+
+abbrev pub endNumberAt : State → ℕ
+endNumberAt (Shaking p) = pick (owesOutput (Shaking p)) 28 12
+endNumberAt (Serving e p) = pick (owesOutput (Serving e p)) 28 12
+endNumberAt (Over n) = n
+
+abbrev pub endNumber : Server → ℕ
+endNumber s = pick (inRange s) (endNumberAt (view s)) 27
+
+pub record Closes (s : Server) (r : Closed) : Type 0 where
+  pub result : r ≡ endOfInput s
+  pub number : numberOf (r .outcome) ≡ some (endNumber s)
 
 -- "room under 152 bytes for the old-style header": 13, and nothing changes
 abbrev pub headerOf : HeaderAnswer → Option ℕ

@@ -29,7 +29,7 @@ ghost use Rattle.wire.specs.declared.table.Export.{Export};
 ghost use Rattle.server.specs.Session.{Greeting, Shaking, Serving, turn};
 ghost use Rattle.server.specs.View.{view, code, handshakeOf, transmissionOf};
 ghost use Rattle.server.specs.Ranges.{rangedShaking, rangedServing, used, outside, outsideShaking, lent, refusal, Good};
-ghost use Rattle.server.specs.Contract.{outcomeOf, owesOutput, cutOff, Serves, endOfInput};
+ghost use Rattle.server.specs.Contract.{outcomeOf, owesOutput, cutOff, Serves, Closes};
 
 pub enum Outcome {
     GoingOn,
@@ -487,7 +487,7 @@ impl Server {
 
     // The host reports that no more input will come.
     pub fn end_of_input(self) -> Closed
-        ensures { λ r. ⌜ r ≡ endOfInput self ⌝ }
+        ensures { λ r. ⌜ Closes self r ⌝ }
     {
         if !ranges::in_range(self) {
             return Closed {

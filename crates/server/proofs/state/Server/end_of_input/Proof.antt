@@ -2,6 +2,7 @@
 use mathlib.Core.Path.{sym, _∙_}
 use borrow.Author.Tests.{not-true, not-false}
 use borrow.Author.Needs.{needs}
+use Rattle.server.proofs.Numbers.{closing}
 use Rattle.server.proofs.state.Server.end_of_input.Statement.{statement}
 use Rattle.server.proofs.state.Server.end_of_input.Tie as tie
 
@@ -9,7 +10,7 @@ in-range-requires : tie.Need-in-range-requires
 in-range-requires c κs = search needs
 
 returns : tie.Need-returns
-returns c = rw (sym (c .before .in-range .ensures) ∙ not-true _ (c .if1 .taken))
+returns c = closing (rw (sym (c .before .in-range .ensures) ∙ not-true _ (c .if1 .taken)))
 
 enum-known-p : tie.Need-enum-known-p
 enum-known-p c = search needs
@@ -33,13 +34,13 @@ enum-known-p-3 : tie.Need-enum-known-p-3
 enum-known-p-3 c = search needs
 
 returns-2 : tie.Need-returns-2
-returns-2 c = c .cut-off .ensures ∙ rw (sym (c .before .before .before .before .before .before .in-range .ensures) ∙ not-false _ (c .before .before .before .before .before .if1 .left), c .before .owes-shaking .ensures (c .before .before .before .before .before .before .before .args .self .head), c .before .before .before .p .given .1)
+returns-2 c = closing (c .cut-off .ensures ∙ rw (sym (c .before .before .before .before .before .before .in-range .ensures) ∙ not-false _ (c .before .before .before .before .before .if1 .left), c .before .owes-shaking .ensures (c .before .before .before .before .before .before .before .args .self .head), c .before .before .before .p .given .1))
 
 returns-3 : tie.Need-returns-3
-returns-3 c = c .cut-off2 .ensures ∙ rw (sym (c .before .before .before .before .before .before .in-range .ensures) ∙ not-false _ (c .before .before .before .before .before .if1 .left), c .before .owes-serving .ensures (c .before .before .before .before .before .before .before .args .self .head) (c .before .before .before .p2 .given .0 .0), c .before .before .before .p2 .given .1)
+returns-3 c = closing (c .cut-off2 .ensures ∙ rw (sym (c .before .before .before .before .before .before .in-range .ensures) ∙ not-false _ (c .before .before .before .before .before .if1 .left), c .before .owes-serving .ensures (c .before .before .before .before .before .before .before .args .self .head) (c .before .before .before .p2 .given .0 .0), c .before .before .before .p2 .given .1))
 
 returns-4 : tie.Need-returns-4
-returns-4 c = rw (sym (c .before .before .before .before .in-range .ensures) ∙ not-false _ (c .before .before .before .if1 .left), c .before .p3 .given .1)
+returns-4 c = closing (rw (sym (c .before .before .before .before .in-range .ensures) ∙ not-false _ (c .before .before .before .if1 .left), c .before .p3 .given .1))
 
 pub end-of-input-spec : {M : Type 1} → statement M
 end-of-input-spec =

@@ -5,7 +5,9 @@ use denote.Ref.{now}
 use lib.ListN.{length}
 use Rattle.server.specs.View.{view, code}
 use Rattle.server.proofs.Tidy.{used-fits, stands-for}
+use Rattle.server.specs.Contract.{numberOf}
 use Rattle.server.proofs.Kept.{next-good}
+use Rattle.server.proofs.Numbers.{refused-number, accepted-number}
 use Rattle.server.proofs.Bounds.{accepted}
 use Rattle.server.proofs.state.Server.step.Statement.{statement}
 use Rattle.server.proofs.state.Server.step.Tie as tie
@@ -22,6 +24,7 @@ returns c =
     record {
       refuses = λ _. record { result = rw e; same-image = refl; same-room = refl };
       accepts = λ z. absurd (c .if1 .taken (e ∙ z));
+      number = rw e (refused-number _ _ (λ z. c .if1 .taken (e ∙ z)));
     }
 
 advance-requires : tie.Need-advance-requires
@@ -50,6 +53,7 @@ returns-2 c =
     record {
       refuses = λ z. absurd (z fine);
       accepts = λ _. record { steps = rw v (c .before .before .before .before .before .before .advance .ensures); one-struct = t ∙ ap code (sym v); outcome = c .told .ensures };
+      number = ap numberOf (c .told .ensures) ∙ accepted-number _ fine;
     }
 
 pub step-spec : {M : Type 1} → statement M

@@ -1,0 +1,43 @@
+-- 01's number of each answer.
+--   refused-number, accepted-number   of a step
+--   closing                           of the end of input: what it answers has the number that it must have
+use Prim.Native.Nat.{ℕ, zero, suc}
+use mathlib.Core.Path.{_≡_, refl, ap, _∙_}
+use mathlib.Core.Bool.{Bool, true, false}
+use mathlib.Core.Option.{some}
+use Rattle.machine.specs.Choice.{pick}
+use Rattle.server.specs.Session.{State, Shaking, Serving, Over}
+use Rattle.server.specs.View.{view}
+use Rattle.server.specs.Ranges.{inRange}
+use Rattle.server.specs.Contract.{numberOf, outcomeOf, stepNumber, owesOutput, cutOff, closedAt, endOfInput, endNumberAt, endNumber, Closes}
+use Rattle.server.specs.declared.state.Server.{Server}
+use Rattle.server.specs.declared.Closed.{Closed}
+use Rattle.server.specs.declared.Outcome.the-variants.{Refused}
+
+pub refused-number : (why : ℕ) (x : State) → (why ≡ 0 → ⊥) → some why ≡ stepNumber why x
+refused-number zero x h = absurd (h refl)
+refused-number (suc why) x h = refl
+
+pub accepted-number : (x : State) {why : ℕ} → why ≡ 0 → numberOf (outcomeOf x) ≡ stepNumber why x
+accepted-number (Shaking p) e = rw e
+accepted-number (Serving x p) e = rw e
+accepted-number (Over n) e = rw e
+
+cut-number : (s : Server) (owed : Bool) → numberOf (cutOff s owed .outcome) ≡ some (pick owed 28 12)
+cut-number s true = refl
+cut-number s false = refl
+
+closed-number : (s : Server) (x : State) → numberOf (closedAt s x .outcome) ≡ some (endNumberAt x)
+closed-number s (Shaking p) = cut-number s (owesOutput (Shaking p))
+closed-number s (Serving e p) = cut-number s (owesOutput (Serving e p))
+closed-number s (Over n) = refl
+
+ended-number : (s : Server) → numberOf (endOfInput s .outcome) ≡ some (endNumber s)
+ended-number s = go (inRange s)
+  where
+    go : (b : Bool) → numberOf (pick b (closedAt s (view s)) (record { state = s; outcome = Refused 27 }) .outcome) ≡ some (pick b (endNumberAt (view s)) 27)
+    go true = closed-number s (view s)
+    go false = refl
+
+pub closing : {s : Server} {r : Closed} → r ≡ endOfInput s → Closes s r
+closing {s} e = record { result = e; number = ap (λ (c : Closed). numberOf (c .outcome)) e ∙ ended-number s }
