@@ -11,10 +11,10 @@ use Rattle.wire.specs.Fields.{Bytes}
 use Rattle.wire.specs.declared.table.Export.{Export}
 use Rattle.server.specs.Session.{Header, Serving, window}
 use Rattle.server.specs.Ranges.{Good}
-use Rattle.server.specs.Exchanges.{Apart}
+use Rattle.server.specs.Exchanges.{Apart, served}
 use Rattle.server.proofs.Bounds.{good-serving}
 use Rattle.server.proofs.Kept.{next-good}
-use Rattle.server.proofs.Untouched.{window-untouched}
+use Rattle.server.proofs.Untouched.{moves-untouched}
 use Rattle.original.specs.Connection.{Result}
 use Rattle.original.specs.Transmission.{Next, again, stop, onward, oneRequest, transmission}
 use Rattle.original.specs.Server.{placed, inImage, Onward, Within}
@@ -46,7 +46,7 @@ module _ (t : List ℕ) (e : Export) where
       let l : length left < k = omega (arith, ap length (w .all-in), length-append (w .taken) left, w .some-taken) in
       let rest : Agrees k (w .image) left = all (w .image) left b l (next-good (w .moves) good) (rw (w .holds) at d) in
       let r : Result = transmission k (window e (w .image)) left in
-      let i : placed (w .image) e (r .device) ≡ placed m e (r .device) = same-place (r .device) (window-untouched good (w .moves)) in
+      let i : placed (w .image) e (r .device) ≡ placed m e (r .device) = same-place (r .device) (moves-untouched good (w .moves) .had served .apart) in
       rw (w .holds) (reaches-then (w .moves) (w .all-in) (rw i at rest))
 
   pub transmission-same : (k : ℕ) → All k

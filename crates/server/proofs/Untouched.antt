@@ -1,17 +1,16 @@
 -- "The export's window is a part of the lent image; no other image byte is ever written."
---   outside-untouched   once an export is chosen and served, whatever moves the session makes
---   handshake-untouched before that nothing is written: the image is the same, or the session came to its first request with the image as it was
---   window-untouched    so wherever the moves began, and the export that they lead to has been chosen
---   step-untouched      the same of a step of the code, refused or not
+--   moves-untouched   of moves, from any state that a step accepts to any state
+--   step-untouched    of every step of the code, from any struct: refused, going on or ended. What a refused step leaves, `Refuses` says: all
 use Prim.Native.Nat.{ℕ, zero, suc, _+_, _<_}
 use mathlib.Core.Path.{_≡_, refl, sym, ap, _∙_}
-use mathlib.Core.Bool.{Bool}
+use mathlib.Core.Bool.{Bool, true, false}
 use mathlib.Core.Logic.{_⊎_, inl, inr}
 use mathlib.Core.List.{List, [], _∷_, _++_}
 use mathlib.Core.Option.{Option, none, some}
 use native.Mathlib.Omega.{arith}
+use borrow.Author.Tests.{ltb-true, ltb-false}
 use lib.Dec.{eqb, ltb, leb}
-use lib.ListN.{length, take, drop, set}
+use lib.ListN.{length, getD, take, drop, set, length-set, List·getD-eq-default}
 use lib.Seq.{take-set-le, drop-set-lt}
 use Rattle.machine.specs.Machine.{On, on, gives, takes, Moves, still, by-give, by-take, Kept, Keeps}
 use Rattle.machine.specs.Bulk.{less}
@@ -19,74 +18,86 @@ use Rattle.machine.proofs.Moves.{kept, resting}
 use Rattle.wire.specs.Fields.{number, field, sameBytes}
 use Rattle.wire.specs.Constants.{IHAVEOPT, NBD-REQUEST-MAGIC}
 use Rattle.wire.specs.Utf8.{whole}
+use Rattle.wire.specs.Table.{records, blank}
 use Rattle.wire.specs.Lookup.{chosen}
 use Rattle.wire.specs.declared.utf8.Utf8.{Utf8}
 use Rattle.wire.specs.declared.table.Export.{Export}
 use Rattle.server.specs.Request.{requestOf, owed}
 use Rattle.server.specs.Session.{Handshake, Greeting, ClientFlags, OptionHead, Naming, Passing, Listing, Declining, Aborting, Exporting}
 use Rattle.server.specs.Session.{Transmission, Header, Storing, Dropping, Replying, Sending, State, Shaking, Serving, Over}
-use Rattle.server.specs.Session.{greeted, listing, declining, aborting, exporting, flagged, answered, passing, found, named, naming, payload, opted}
+use Rattle.server.specs.Session.{greeted, listing, declining, aborting, exporting, flagged, answered, passing, exportAt, found, named, naming, payload, opted}
 use Rattle.server.specs.Session.{sending, replying, storing, dropping, begun, requested, turn}
 use Rattle.server.specs.View.{view}
 use Rattle.server.specs.Ranges.{refusal, Good}
 use Rattle.server.specs.Contract.{Serves}
-use Rattle.server.specs.Exchanges.{Apart, Chose}
+use Rattle.server.specs.Exchanges.{Apart, Has, announced, served, Only, Via, Chose, Untouched}
 use Rattle.server.specs.declared.state.Server.{Server}
 use Rattle.server.specs.declared.Stepped.{Stepped}
 use Rattle.server.specs.declared.request.Request.{Request}
 use Rattle.server.specs.declared.request.Answer.{Answer}
 use Rattle.server.specs.declared.request.Answer.the-variants.{Silence, Reply, Data, Store, Swallow, End}
 use Rattle.server.proofs.Bounds.{storing-bounds, good-serving, accepted}
-use Rattle.server.proofs.Kept.{picked, Stands, kept-good}
+use Rattle.server.proofs.Kept.{picked, Stands, kept-good, still-good}
 
 -- ---- the export stays the one that was chosen, until the end
-abbrev Of : Export → State → Type 0
-Of e (Shaking p) = ⊥
-Of e (Serving x p) = x ≡ e
-Of e (Over n) = Unit {0}
+data Own (e : Export) : State → Type 0 where
+  has : {x : State} → Has x e → Own e x
+  over : {n : ℕ} → Own e (Over n)
+
+stays : {x : State} {e : Export} → Own e x → Has x e ⊎ ((n : ℕ) × (x ≡ Over n))
+stays (has h) = inl h
+stays (over {n = n}) = inr (n, refl)
 
 module _ (e : Export) where
-  of-sending : (off left : ℕ) → Of e (sending e off left)
-  of-sending off zero = refl
-  of-sending off (suc left) = refl
+  own-exporting : (z : Bool) (left : ℕ) → Own e (exporting z e left)
+  own-exporting z zero = has served
+  own-exporting z (suc left) = has announced
 
-  of-replying : (error handle left off len : ℕ) → Of e (replying e error handle left off len)
-  of-replying error handle zero off len = of-sending off len
-  of-replying error handle (suc left) off len = refl
+  own-sending : (off left : ℕ) → Own e (sending e off left)
+  own-sending off zero = has served
+  own-sending off (suc left) = has served
 
-  of-storing : (handle off left : ℕ) → Of e (storing e handle off left)
-  of-storing handle off zero = refl
-  of-storing handle off (suc left) = refl
+  own-replying : (error handle left off len : ℕ) → Own e (replying e error handle left off len)
+  own-replying error handle zero off len = own-sending off len
+  own-replying error handle (suc left) off len = has served
 
-  of-dropping : (error handle left : ℕ) → Of e (dropping e error handle left)
-  of-dropping error handle zero = refl
-  of-dropping error handle (suc left) = refl
+  own-storing : (handle off left : ℕ) → Own e (storing e handle off left)
+  own-storing handle off zero = has served
+  own-storing handle off (suc left) = has served
 
-  of-begun : (r : Request) (a : Answer) → Of e (begun e r a)
-  of-begun r Silence = refl
-  of-begun r (Reply error) = refl
-  of-begun r Data = refl
-  of-begun r Store = of-storing (r .handle) (r .offset) (r .len)
-  of-begun r (Swallow error) = of-dropping error (r .handle) (r .len)
-  of-begun r (End n) = tt
+  own-dropping : (error handle left : ℕ) → Own e (dropping e error handle left)
+  own-dropping error handle zero = has served
+  own-dropping error handle (suc left) = has served
 
-  of-requested : (h : List ℕ) → Of e (requested e h)
+  own-begun : (r : Request) (a : Answer) → Own e (begun e r a)
+  own-begun r Silence = has served
+  own-begun r (Reply error) = has served
+  own-begun r Data = has served
+  own-begun r Store = own-storing (r .handle) (r .offset) (r .len)
+  own-begun r (Swallow error) = own-dropping error (r .handle) (r .len)
+  own-begun r (End n) = over
+
+  own-requested : (h : List ℕ) → Own e (requested e h)
   unfolding requested
-  of-requested h =
-      picked (Of e) (eqb (length h) 4) (λ _. picked (Of e) (eqb (number h) NBD-REQUEST-MAGIC) (λ _. refl) (λ _. tt))
-      λ _. picked (Of e) (ltb (length h) 28) (λ _. refl) (λ _. of-begun (requestOf h) (owed e (requestOf h)))
+  own-requested h =
+      picked (Own e) (eqb (length h) 4) (λ _. picked (Own e) (eqb (number h) NBD-REQUEST-MAGIC) (λ _. has served) (λ _. over))
+      λ _. picked (Own e) (ltb (length h) 28) (λ _. has served) (λ _. own-begun (requestOf h) (owed e (requestOf h)))
 
 -- ---- each turn
+apart-same : {e : Export} {m m′ : List ℕ} → m′ ≡ m → Apart e m m′
+apart-same {e} q = record { as-long = ap length q; before = ap (take (e .start)) q; behind = ap (drop (e .start + e .size)) q }
+
 apart-set : (e : Export) (m₀ m : List ℕ) (off b : ℕ) → off < e .size → Apart e m₀ m → Apart e m₀ (set m (e .start + off) b)
 apart-set e m₀ m off b h a = record {
+  as-long = length-set m (e .start + off) b ∙ a .as-long;
   before = take-set-le (e .start) m (e .start + off) b (omega arith) ∙ a .before;
   behind = drop-set-lt (e .start + e .size) m (e .start + off) b (omega arith) ∙ a .behind;
 }
 
-module _ (t : List ℕ) (n : ℕ) (e : Export) (m₀ : List ℕ) where
+module _ (t m₀ : List ℕ) (e : Export) where
   record Inside (x : State) (m : List ℕ) : Type 0 where
-    stands : Stands t n (on x m)
-    of : Of e x
+    stands : Stands t (length m₀) (on x m)
+    own : Own e x
     apart : Apart e m₀ m
 
   Holds : On State → Type 0
@@ -94,174 +105,226 @@ module _ (t : List ℕ) (n : ℕ) (e : Export) (m₀ : List ℕ) where
 
   kept-apart : Keeps (turn t) Holds
   unfolding Holds Stands
-  kept-apart (on (Shaking p) m) h = absurd (h .of)
-  kept-apart (on (Serving x (Header got)) m) h =
-      let k = kept-good t n (on (Serving x (Header got)) m) (h .stands) in
-      λ b. record { stands = k b; of = rw (h .of) (of-requested e (got ++ b ∷ [])); apart = h .apart }
-  kept-apart (on (Serving x (Storing handle off left)) m) h =
-      let k = kept-good t n (on (Serving x (Storing handle off left)) m) (h .stands) in
-      let f = storing-bounds x off left (good-serving (h .stands .1) .0) in
-      let i : off < x .size = omega (arith, f .0, f .1) in
-      λ b. record {
-        stands = k b;
-        of = rw (h .of) (of-storing e handle (suc off) (less left));
-        apart = rw (h .of) (apart-set e m₀ m off b (rw (h .of) at i) (h .apart));
-      }
-  kept-apart (on (Serving x (Dropping error handle left)) m) h =
-      let k = kept-good t n (on (Serving x (Dropping error handle left)) m) (h .stands) in
-      λ b. record { stands = k b; of = rw (h .of) (of-dropping e error handle (less left)); apart = h .apart }
-  kept-apart (on (Serving x (Replying error handle left off len)) m) h =
-      record { stands = kept-good t n (on (Serving x (Replying error handle left off len)) m) (h .stands); of = rw (h .of) (of-replying e error handle (less left) off len); apart = h .apart }
-  kept-apart (on (Serving x (Sending off left)) m) h =
-      record { stands = kept-good t n (on (Serving x (Sending off left)) m) (h .stands); of = rw (h .of) (of-sending e (suc off) (less left)); apart = h .apart }
-  kept-apart (on (Over k) m) h = tt
+  kept-apart (on x m) h = go (h .own) (h .stands) (kept-good t (length m₀) (on x m) (h .stands))
+    where
+      go : {x : State} → Own e x → Stands t (length m₀) (on x m) → Kept (Stands t (length m₀)) (turn t (on x m)) → Kept Holds (turn t (on x m))
+      go (has (announced {z = z} {left = left})) s k = record { stands = k; own = own-exporting e z (less left); apart = h .apart }
+      go (has (served {p = Header got})) s k = λ b. record { stands = k b; own = own-requested e (got ++ b ∷ []); apart = h .apart }
+      go (has (served {p = Storing handle off left})) s k =
+          let f = storing-bounds e off left (good-serving (s .1) .0) in
+          let i : off < e .size = omega (arith, f .0, f .1) in
+          λ b. record { stands = k b; own = own-storing e handle (suc off) (less left); apart = apart-set e m₀ m off b i (h .apart) }
+      go (has (served {p = Dropping error handle left})) s k = λ b. record { stands = k b; own = own-dropping e error handle (less left); apart = h .apart }
+      go (has (served {p = Replying error handle left off len})) s k = record { stands = k; own = own-replying e error handle (less left) off len; apart = h .apart }
+      go (has (served {p = Sending off left})) s k = record { stands = k; own = own-sending e (suc off) (less left); apart = h .apart }
+      go over s k = tt
 
-module _ {t m m′ is os : List ℕ} {e : Export} {p : Transmission} {y : State} (g : Good t (length m) (Serving e p)) (r : Moves (turn t) (on (Serving e p) m) is os (on y m′)) where
-  inside : Inside t (length m) e m y m′
-  unfolding Holds Stands
-  inside = kept {P = Holds t (length m) e m} (kept-apart t (length m) e m) r (record { stands = (refl, g); of = refl; apart = record { before = refl; behind = refl } })
+only : {t m m′ is os : List ℕ} {e : Export} {x y : State} → Good t (length m) x → Moves (turn t) (on x m) is os (on y m′) → Has x e → Only e m y m′
+unfolding Holds Stands
+only {t} {m} {e = e} g r h =
+    let i = kept {P = Holds t m e} (kept-apart t m e) r (record { stands = (refl, g); own = has h; apart = apart-same refl }) in
+    record { apart = i .apart; stays = stays (i .own) }
 
-  pub outside-untouched : Apart e m m′
-  outside-untouched = inside .apart
+-- ---- the handshake while no export is chosen
+abbrev None : Handshake → Type 0
+None (Greeting left) = Unit {0}
+None (ClientFlags got) = Unit {0}
+None (OptionHead z got) = Unit {0}
+None (Naming z fits text at left) = Unit {0}
+None (Passing z option len left) = Unit {0}
+None (Listing z left) = Unit {0}
+None (Declining z option left) = Unit {0}
+None (Aborting left) = Unit {0}
+None (Exporting z e left) = ⊥
 
--- ---- the handshake: a turn of it leads to no place behind the first request's beginning
-abbrev Early : State → Type 0
-Early (Shaking p) = Unit {0}
-Early (Serving e p) = p ≡ Header []
-Early (Over n) = Unit {0}
-
-early-greeted : (left : ℕ) → Early (greeted left)
-early-greeted zero = tt
-early-greeted (suc left) = tt
-
-early-listing : (z : Bool) (left : ℕ) → Early (listing z left)
-early-listing z zero = tt
-early-listing z (suc left) = tt
-
-early-declining : (z : Bool) (option left : ℕ) → Early (declining z option left)
-early-declining z option zero = tt
-early-declining z option (suc left) = tt
-
-early-aborting : (left : ℕ) → Early (aborting left)
-early-aborting zero = tt
-early-aborting (suc left) = tt
-
-early-exporting : (z : Bool) (e : Export) (left : ℕ) → Early (exporting z e left)
-early-exporting z e zero = refl
-early-exporting z e (suc left) = tt
-
-early-flagged : (h : List ℕ) → Early (flagged h)
-unfolding flagged
-early-flagged h =
-    picked Early (ltb (length h) 4) (λ _. tt) λ _. picked Early (eqb (number h) 1) (λ _. tt) λ _. picked Early (eqb (number h) 3) (λ _. tt) (λ _. tt)
-
-early-answered : (z : Bool) (option len : ℕ) → Early (answered z option len)
-unfolding answered
-early-answered z option len =
-    picked Early (eqb option 2) (λ _. tt)
-    λ _. picked Early (eqb option 3) (λ _. picked Early (eqb len 0) (λ _. tt) (λ _. tt))
-    λ _. picked Early (eqb option 5) (λ _. tt)
-    λ _. picked Early (eqb option 6) (λ _. tt)
-    λ _. picked Early (eqb option 7) (λ _. tt)
-    λ _. picked Early (eqb option 8) (λ _. tt)
-    λ _. picked Early (eqb option 11) (λ _. tt) (λ _. tt)
-
-early-passing : (z : Bool) (option len left : ℕ) → Early (passing z option len left)
-early-passing z option len zero = early-answered z option len
-early-passing z option len (suc left) = tt
-
-early-found : (z : Bool) (t : List ℕ) (o : Option ℕ) → Early (found z t o)
-early-found z t none = tt
-early-found z t (some k) = tt
-
-early-naming : (z : Bool) (t : List ℕ) (fits : List Bool) (text : Utf8) (at left : ℕ) → Early (naming z t fits text at left)
-unfolding named
-early-naming z t fits text at zero = picked Early (whole text) (λ _. early-found z t (chosen fits)) (λ _. tt)
-early-naming z t fits text at (suc left) = tt
-
-early-opted : (z : Bool) (t h : List ℕ) → Early (opted z t h)
-unfolding opted payload
-early-opted z t h =
-    picked Early (eqb (length h) 8) (λ _. picked Early (sameBytes h IHAVEOPT) (λ _. tt) (λ _. tt))
-    λ _. picked Early (ltb (length h) 16) (λ _. tt)
-    λ _. picked Early (leb (field h 12 4) 100000)
-    (λ _. picked Early (eqb (field h 8 4) 1) (λ _. early-naming z t _ _ 0 (field h 12 4)) (λ _. early-passing z (field h 8 4) (field h 12 4) (field h 12 4))) (λ _. tt)
+has-none : {p : Handshake} {e : Export} → None p → Has (Shaking p) e → ⊥
+has-none h announced = h
 
 module _ (t m₀ : List ℕ) where
-  abbrev Same : On State → Type 0
-  Same (on x m) = Early x × (m ≡ m₀)
+  -- where a turn of it leads: the image is as it was
+  data Led : On State → Type 0 where
+    on-way : (p : Handshake) → ((e : Export) → Has (Shaking p) e → ⊥) → Led (on (Shaking p) m₀)
+    at-choice : (z : Bool) (k : ℕ) → Led (on (found z t (some k)) m₀)
+    at-end : {n : ℕ} → Led (on (Over n) m₀)
 
-  abbrev Sound : On State → Type 0
-  Sound x = Stands t (length m₀) x
+  abbrev L : State → Type 0
+  L x = Led (on x m₀)
 
-  same-after : (p : Handshake) (m : List ℕ) → m ≡ m₀ → Kept Same (turn t (on (Shaking p) m))
-  same-after (Greeting left) m h = (early-greeted (less left), h)
-  same-after (ClientFlags got) m h = λ b. (early-flagged (got ++ b ∷ []), h)
-  same-after (OptionHead z got) m h = λ b. (early-opted z t (got ++ b ∷ []), h)
-  same-after (Naming z fits text at left) m h = λ b. (early-naming z t _ _ (suc at) (less left), h)
-  same-after (Passing z option len left) m h = λ b. (early-passing z option len (less left), h)
-  same-after (Listing z left) m h = (early-listing z (less left), h)
-  same-after (Declining z option left) m h = (early-declining z option (less left), h)
-  same-after (Aborting left) m h = (early-aborting (less left), h)
-  same-after (Exporting z e left) m h = (early-exporting z e (less left), h)
+  plain : {p : Handshake} → None p → L (Shaking p)
+  plain {p} h = on-way p (λ e. has-none h)
 
-  abbrev Unwritten : On State → Type 0
-  Unwritten (on y m) = (m ≡ m₀) ⊎ Chose t m₀ (on y m)
+  led-greeted : (left : ℕ) → L (greeted left)
+  led-greeted zero = plain tt
+  led-greeted (suc left) = plain tt
 
-  unwritten : (x : On State) → Same x → Unwritten x
-  unwritten (on x m) h = inl (h .1)
+  led-listing : (z : Bool) (left : ℕ) → L (listing z left)
+  led-listing z zero = plain tt
+  led-listing z (suc left) = plain tt
 
-  served : (e : Export) (p : Transmission) (m : List ℕ) (y : On State) {is os : List ℕ} → Same (on (Serving e p) m) → Sound (on (Serving e p) m)
-      → Moves (turn t) (on (Serving e p) m) is os y → Unwritten y
-  unfolding Stands
-  served e p m (on y m′) {is} {os} h g r =
-      inr record { export = e; taken = is; given = os; good = rw (h .0) at (g .1); moves = rw (h .0, h .1) at r }
+  led-declining : (z : Bool) (option left : ℕ) → L (declining z option left)
+  led-declining z option zero = plain tt
+  led-declining z option (suc left) = plain tt
 
-  one-given : (x : On State) {y z : On State} {b : ℕ} {is os : List ℕ} → Same x → Sound x → turn t x ≡ gives b y → Moves (turn t) y is os z
-      → (Same y → Sound y → Unwritten z) → Unwritten z
-  one-given (on (Shaking p) m) h g q r more = more (rw q at (same-after p m (h .1))) (rw q at (kept-good t (length m₀) (on (Shaking p) m) g))
-  one-given (on (Serving e p) m) {z = z} h g q r more = served e p m z h g (by-give q r)
-  one-given (on (Over n) m) h g q r more = absurd (let z : _≡_ {A = ℕ} 0 1 = cc in omega arith)
+  led-aborting : (left : ℕ) → L (aborting left)
+  led-aborting zero = at-end
+  led-aborting (suc left) = plain tt
 
-  one-taken : (x : On State) {z : On State} {k : ℕ → On State} {b : ℕ} {is os : List ℕ} → Same x → Sound x → turn t x ≡ takes k → Moves (turn t) (k b) is os z
-      → (Same (k b) → Sound (k b) → Unwritten z) → Unwritten z
-  one-taken (on (Shaking p) m) {b = b} h g q r more = more ((rw q at (same-after p m (h .1))) b) ((rw q at (kept-good t (length m₀) (on (Shaking p) m) g)) b)
-  one-taken (on (Serving e p) m) {z = z} h g q r more = served e p m z h g (by-take q r)
-  one-taken (on (Over n) m) h g q r more = absurd (let z : _≡_ {A = ℕ} 0 1 = cc in omega arith)
+  led-flagged : (h : List ℕ) → L (flagged h)
+  unfolding flagged
+  led-flagged h =
+      picked L (ltb (length h) 4) (λ _. plain tt)
+      λ _. picked L (eqb (number h) 1) (λ _. plain tt) λ _. picked L (eqb (number h) 3) (λ _. plain tt) (λ _. at-end)
 
-  followed : {x y : On State} {is os : List ℕ} → Same x → Sound x → Moves (turn t) x is os y → Unwritten y
-  followed {x} h g still = unwritten x h
-  followed {x} h g (by-give q r) = one-given x h g q r (λ s k. followed s k r)
-  followed {x} h g (by-take q r) = one-taken x h g q r (λ s k. followed s k r)
+  led-answered : (z : Bool) (option len : ℕ) → L (answered z option len)
+  unfolding answered
+  led-answered z option len =
+      picked L (eqb option 2) (λ _. plain tt)
+      λ _. picked L (eqb option 3) (λ _. picked L (eqb len 0) (λ _. plain tt) (λ _. at-end))
+      λ _. picked L (eqb option 5) (λ _. at-end)
+      λ _. picked L (eqb option 6) (λ _. plain tt)
+      λ _. picked L (eqb option 7) (λ _. plain tt)
+      λ _. picked L (eqb option 8) (λ _. plain tt)
+      λ _. picked L (eqb option 11) (λ _. plain tt) (λ _. at-end)
 
-pub handshake-untouched : {t m m′ is os : List ℕ} {p : Handshake} {y : State} → Good t (length m) (Shaking p) → Moves (turn t) (on (Shaking p) m) is os (on y m′)
-    → (m′ ≡ m) ⊎ Chose t m (on y m′)
-unfolding Stands
-handshake-untouched {t} {m} g r = followed t m (tt, refl) (refl, g) r
+  led-passing : (z : Bool) (option len left : ℕ) → L (passing z option len left)
+  led-passing z option len zero = led-answered z option len
+  led-passing z option len (suc left) = plain tt
+
+  led-found : (z : Bool) (o : Option ℕ) → L (found z t o)
+  led-found z none = at-end
+  led-found z (some k) = at-choice z k
+
+  led-naming : (z : Bool) (fits : List Bool) (text : Utf8) (at left : ℕ) → L (naming z t fits text at left)
+  unfolding named
+  led-naming z fits text at zero = picked L (whole text) (λ _. led-found z (chosen fits)) (λ _. at-end)
+  led-naming z fits text at (suc left) = plain tt
+
+  led-opted : (z : Bool) (h : List ℕ) → L (opted z t h)
+  unfolding opted payload
+  led-opted z h =
+      picked L (eqb (length h) 8) (λ _. picked L (sameBytes h IHAVEOPT) (λ _. plain tt) (λ _. at-end))
+      λ _. picked L (ltb (length h) 16) (λ _. plain tt)
+      λ _. picked L (leb (field h 12 4) 100000)
+      (λ _. picked L (eqb (field h 8 4) 1) (λ _. led-naming z _ _ 0 (field h 12 4)) (λ _. led-passing z (field h 8 4) (field h 12 4) (field h 12 4))) (λ _. at-end)
+
+  led : (p : Handshake) → ((e : Export) → Has (Shaking p) e → ⊥) → Kept Led (turn t (on (Shaking p) m₀))
+  led (Greeting left) h = led-greeted (less left)
+  led (ClientFlags got) h = λ b. led-flagged (got ++ b ∷ [])
+  led (OptionHead z got) h = λ b. led-opted z (got ++ b ∷ [])
+  led (Naming z fits text at left) h = λ b. led-naming z _ _ (suc at) (less left)
+  led (Passing z option len left) h = λ b. led-passing z option len (less left)
+  led (Listing z left) h = led-listing z (less left)
+  led (Declining z option left) h = led-declining z option (less left)
+  led (Aborting left) h = led-aborting (less left)
+  led (Exporting z e left) h = absurd (h e announced)
+
+  -- ---- moves from there: up to no choice, or by one
+  data Ways (x : On State) (is os : List ℕ) (y : On State) : Type 0 where
+    unchosen : {z : State} → y ≡ on z m₀ → Ways x is os y
+    by-choice : (z : Bool) (k : ℕ) → Via (turn t) x is os (on (found z t (some k)) m₀) y → Ways x is os y
+
+  first-given : {x y z : On State} {b : ℕ} {is os : List ℕ} → turn t x ≡ gives b y → Ways y is os z → Ways x is (b ∷ os) z
+  first-given q (unchosen e) = unchosen e
+  first-given {b = b} q (by-choice z k w) = by-choice z k record {
+    first-in = w .first-in;
+    first-out = b ∷ w .first-out;
+    more-in = w .more-in;
+    more-out = w .more-out;
+    to-place = by-give q (w .to-place);
+    from-place = w .from-place;
+    all-in = w .all-in;
+    all-out = ap (λ (l : List ℕ). b ∷ l) (w .all-out);
+  }
+
+  first-taken : {x z : On State} {k : ℕ → On State} {b : ℕ} {is os : List ℕ} → turn t x ≡ takes k → Ways (k b) is os z → Ways x (b ∷ is) os z
+  first-taken q (unchosen e) = unchosen e
+  first-taken {b = b} q (by-choice z k w) = by-choice z k record {
+    first-in = b ∷ w .first-in;
+    first-out = w .first-out;
+    more-in = w .more-in;
+    more-out = w .more-out;
+    to-place = by-take q (w .to-place);
+    from-place = w .from-place;
+    all-in = ap (λ (l : List ℕ). b ∷ l) (w .all-in);
+    all-out = w .all-out;
+  }
+
+  chosen-here : (z : Bool) (k : ℕ) {y : On State} {is os : List ℕ} → Moves (turn t) (on (found z t (some k)) m₀) is os y → Ways (on (found z t (some k)) m₀) is os y
+  chosen-here z k {is = is} {os = os} r = by-choice z k record {
+    first-in = [];
+    first-out = [];
+    more-in = is;
+    more-out = os;
+    to-place = still;
+    from-place = r;
+    all-in = refl;
+    all-out = refl;
+  }
+
+  stayed : {x : On State} → Led x → Ways x [] [] x
+  stayed (on-way p h) = unchosen refl
+  stayed (at-choice z k) = unchosen refl
+  stayed at-end = unchosen refl
+
+  one-given : {x y z : On State} {b : ℕ} {is os : List ℕ} → Led x → turn t x ≡ gives b y → Moves (turn t) y is os z → (Led y → Ways y is os z) → Ways x is (b ∷ os) z
+  one-given (on-way p h) q r more = first-given q (more (rw q at (led p h)))
+  one-given (at-choice z k) q r more = chosen-here z k (by-give q r)
+  one-given at-end q r more = absurd (let z : _≡_ {A = ℕ} 0 1 = cc in omega arith)
+
+  one-taken : {x z : On State} {k : ℕ → On State} {b : ℕ} {is os : List ℕ} → Led x → turn t x ≡ takes k → Moves (turn t) (k b) is os z → (Led (k b) → Ways (k b) is os z)
+      → Ways x (b ∷ is) os z
+  one-taken {b = b} (on-way p h) q r more = first-taken q (more ((rw q at (led p h)) b))
+  one-taken (at-choice z k) q r more = chosen-here z k (by-take q r)
+  one-taken at-end q r more = absurd (let z : _≡_ {A = ℕ} 0 1 = cc in omega arith)
+
+  followed : {x y : On State} {is os : List ℕ} → Led x → Moves (turn t) x is os y → Ways x is os y
+  followed l still = stayed l
+  followed l (by-give q r) = one-given l q r (λ k. followed k r)
+  followed l (by-take q r) = one-taken l q r (λ k. followed k r)
 
 -- ---- wherever the moves began
-unchanged : {e : Export} {m m′ : List ℕ} → m′ ≡ m → Apart e m m′
-unchanged {e} q = record { before = ap (take (e .start)) q; behind = ap (drop (e .start + e .size)) q }
-
-pub window-untouched : {t m m′ is os : List ℕ} {x : State} {e : Export} {p : Transmission} → Good t (length m) x → Moves (turn t) (on x m) is os (on (Serving e p) m′) → Apart e m m′
-window-untouched {t} {m} {m′} {is} {os} {x} {e} {p} g r = from x g r
+-- a number that no record has stands for an empty window
+some-record : (t : List ℕ) (k : ℕ) {m m′ : List ℕ} → Apart (exportAt t k) m m′ → (k < length (records t)) ⊎ (m′ ≡ m)
+some-record t k {m} {m′} a = go (ltb k (length (records t))) refl
   where
-    chosen-by : (x : Export) {q : Transmission} {js ps : List ℕ} → Good t (length m) (Serving x q) → Moves (turn t) (on (Serving x q) m) js ps (on (Serving e p) m′) → Apart e m m′
-    chosen-by x g r = let i = inside g r in rw (i .of) (i .apart)
+    go : (b : Bool) → ltb k (length (records t)) ≡ b → (k < length (records t)) ⊎ (m′ ≡ m)
+    go true q = inl (ltb-true k (length (records t)) q)
+    go false q = let d : getD (records t) k blank ≡ blank = List·getD-eq-default (records t) blank (ltb-false k (length (records t)) q) in inr (rw d at (a .behind))
 
-    of-handshake : (m′ ≡ m) ⊎ Chose t m (on (Serving e p) m′) → Apart e m m′
-    of-handshake (inl q) = unchanged q
-    of-handshake (inr c) = chosen-by (c .export) (c .good) (c .moves)
-
-    from : (x : State) → Good t (length m) x → Moves (turn t) (on x m) is os (on (Serving e p) m′) → Apart e m m′
-    from (Shaking q) g r = of-handshake (handshake-untouched g r)
-    from (Serving x q) g r = chosen-by x g r
-    from (Over n) g r = let s = resting {x = on (Over n) m} refl r .2 in absurd (let z : _≡_ {A = ℕ} 0 1 = cc in omega arith)
-
-pub step-untouched : {self : Server} {t m input room : List ℕ} {r : Stepped} {m′ room′ : List ℕ} {e : Export} {p : Transmission}
-    → Serves self t m input room r m′ room′ → view (r .state) ≡ Serving e p → Apart e m m′
-step-untouched {self} {t} {m} {m′ = m′} {e = e} s v = go (refusal t (length m) self) refl
+chose : {t m m′ is os : List ℕ} {x y : State} → Good t (length m) x → Ways t m (on x m) is os (on y m′) → (m′ ≡ m) ⊎ Chose t m x is os y m′
+chose g (unchosen e) = inl cc
+chose {t} {m} {m′} {is} {os} {x} {y} g (by-choice z k w) = go (some-record t k (o .apart))
   where
-    go : (n : ℕ) → refusal t (length m) self ≡ n → Apart e m m′
-    go (suc n) q = unchanged (s .refuses (λ z. omega (arith, sym q ∙ z)) .same-image)
-    go zero q = window-untouched (accepted t (length m) self q) (rw v at (s .accepts q .steps .goes .moves))
+    o : Only (exportAt t k) m y m′
+    o = only (still-good (w .to-place) g .1) (w .from-place) announced
+
+    go : (k < length (records t)) ⊎ (m′ ≡ m) → (m′ ≡ m) ⊎ Chose t m x is os y m′
+    go (inl l) = inr record { number = k; listed = l; zeroes = z; way = w; only = o }
+    go (inr q) = inl q
+
+module _ {t m m′ is os : List ℕ} {y : State} where
+  rested : {n : ℕ} → Moves (turn t) (on (Over n) m) is os (on y m′) → m′ ≡ m
+  rested {n} r = let s = resting {x = on (Over n) m} refl r .2 in cc
+
+  from-none : (x : State) → ((e : Export) → Has x e → ⊥) → Good t (length m) x → Moves (turn t) (on x m) is os (on y m′) → (m′ ≡ m) ⊎ Chose t m x is os y m′
+  from-none (Shaking p) h g r = chose g (followed t m (on-way p h) r)
+  from-none (Serving e p) h g r = absurd (h e served)
+  from-none (Over n) h g r = inl (rested r)
+
+  pub moves-untouched : {x : State} → Good t (length m) x → Moves (turn t) (on x m) is os (on y m′) → Untouched t m x is os y m′
+  moves-untouched {x} g r = record { had = only g r; had-none = λ h. from-none x h g r; ended = λ q. rested (rw q at r) }
+
+pub step-untouched : {self : Server} {t m input room : List ℕ} {r : Stepped} {m′ room′ : List ℕ} → Serves self t m input room r m′ room′
+    → Untouched t m (view self) (take (r .taken) input) (take (r .given) room′) (view (r .state)) m′
+step-untouched {self} {t} {m} {input} {room} {r} {m′} {room′} s = go (refusal t (length m) self) refl
+  where
+    go : (n : ℕ) → refusal t (length m) self ≡ n → Untouched t m (view self) (take (r .taken) input) (take (r .given) room′) (view (r .state)) m′
+    go zero q = moves-untouched (accepted t (length m) self q) (s .accepts q .steps .goes .moves)
+    go (suc n) q =
+        let f = s .refuses (λ z. omega (arith, sym q ∙ z)) in
+        let v : view (r .state) ≡ view self = ap (λ (z : Stepped). view (z .state)) (f .result) in
+        record {
+          had = λ h. record { apart = apart-same (f .same-image); stays = inl (rw v h) };
+          had-none = λ _. inl (f .same-image);
+          ended = λ _. f .same-image;
+        }

@@ -3,19 +3,25 @@
 --   asked    a request by its fields
 --   Fits     numbers that the fields of a request can hold
 --   Exactly  what a step answers that takes all of its input and gives these bytes
---   Apart    two images have the same bytes before an export's window and behind it
---   Chose    an export was chosen, its first request began with the image as it was, and moves lead on from there
+--   Apart    two images are as long, and have the same bytes before an export's window and behind it
+--   Has      the session has chosen the export: the reply that says so is owed, or the export is served
+--   Only     an image changed in the export's window only, and the session has that export still or is over
+--   Via      moves that pass a place, with the bytes up to there and from there on
+--   Chose    on its way the session chose an export of the table, and wrote in that export's window only
+--   Untouched   "no other image byte is ever written": what is left of the image, by the export that the session had
 use Prim.Native.Nat.{ℕ, _+_, _^_, _<_}
 use mathlib.Core.Path.{_≡_}
 use mathlib.Core.Logic.{_⊎_}
-use mathlib.Core.List.{List, [], _++_}
+use mathlib.Core.Bool.{Bool}
+use mathlib.Core.List.{List, _++_}
+use mathlib.Core.Option.{some}
 use lib.ListN.{length, take, drop}
-use Rattle.machine.specs.Machine.{On, on, Moves}
+use Rattle.machine.specs.Machine.{Turn, on, Moves}
 use Rattle.wire.specs.Constants.{NBD-OPT-INFO, NBD-OPT-GO, NBD-OPT-STRUCTURED-REPLY, NBD-OPT-EXTENDED-HEADERS}
+use Rattle.wire.specs.Table.{records}
 use Rattle.wire.specs.declared.table.Export.{Export}
-use Rattle.server.specs.Session.{State, Serving, Header, turn}
+use Rattle.server.specs.Session.{Exporting, Transmission, State, Shaking, Serving, Over, exportAt, found, turn}
 use Rattle.server.specs.View.{code}
-use Rattle.server.specs.Ranges.{Good}
 use Rattle.server.specs.Contract.{outcomeOf}
 use Rattle.server.specs.declared.request.Request.{Request}
 use Rattle.server.specs.declared.Stepped.{Stepped}
@@ -47,12 +53,38 @@ pub record Exactly (input room given : List ℕ) (y : State) (m : List ℕ) (r :
   pub written : room′ ≡ given ++ drop (length given) room
 
 pub record Apart (e : Export) (m m′ : List ℕ) : Type 0 where
+  pub as-long : length m′ ≡ length m
   pub before : take (e .start) m′ ≡ take (e .start) m
   pub behind : drop (e .start + e .size) m′ ≡ drop (e .start + e .size) m
 
-pub record Chose (t m : List ℕ) (y : On State) : Type 0 where
-  pub export : Export
-  pub taken : List ℕ
-  pub given : List ℕ
-  pub good : Good t (length m) (Serving export (Header []))
-  pub moves : Moves (turn t) (on (Serving export (Header [])) m) taken given y
+pub data Has : State → Export → Type 0 where
+  announced : {z : Bool} {e : Export} {left : ℕ} → Has (Shaking (Exporting z e left)) e
+  served : {e : Export} {p : Transmission} → Has (Serving e p) e
+
+pub record Only (e : Export) (m : List ℕ) (y : State) (m′ : List ℕ) : Type 0 where
+  pub apart : Apart e m m′
+  pub stays : Has y e ⊎ ((n : ℕ) × (y ≡ Over n))
+
+pub record Via {X : Type 0} (turn : X → Turn X) (x : X) (is os : List ℕ) (place y : X) : Type 0 where
+  pub first-in : List ℕ
+  pub first-out : List ℕ
+  pub more-in : List ℕ
+  pub more-out : List ℕ
+  pub to-place : Moves turn x first-in first-out place
+  pub from-place : Moves turn place more-in more-out y
+  pub all-in : is ≡ first-in ++ more-in
+  pub all-out : os ≡ first-out ++ more-out
+
+-- ---- with the table t lent, from x and the image m to y and the image m′, by the bytes taken `is` and the bytes given `os`
+-- a name was found in a record of t while the image was m
+pub record Chose (t m : List ℕ) (x : State) (is os : List ℕ) (y : State) (m′ : List ℕ) : Type 0 where
+  pub number : ℕ
+  pub listed : number < length (records t)
+  pub zeroes : Bool
+  pub way : Via (turn t) (on x m) is os (on (found zeroes t (some number)) m) (on y m′)
+  pub only : Only (exportAt t number) m y m′
+
+pub record Untouched (t m : List ℕ) (x : State) (is os : List ℕ) (y : State) (m′ : List ℕ) : Type 0 where
+  pub had : {e : Export} → Has x e → Only e m y m′
+  pub had-none : ((e : Export) → Has x e → ⊥) → (m′ ≡ m) ⊎ Chose t m x is os y m′
+  pub ended : {n : ℕ} → x ≡ Over n → m′ ≡ m
