@@ -24,7 +24,7 @@ use Rattle.wire.specs.declared.utf8.Utf8.{Utf8}
 use Rattle.wire.specs.declared.table.Export.{Export}
 use Rattle.server.specs.Request.{requestOf, owed}
 use Rattle.server.specs.Session.{Handshake, Greeting, ClientFlags, OptionHead, Naming, Passing, Listing, Declining, Aborting, Exporting}
-use Rattle.server.specs.Session.{Transmission, Header, Storing, Dropping, Replying, Sending, State, Shaking, Serving, Over}
+use Rattle.server.specs.Session.{Header, Storing, Dropping, Replying, Sending, State, Shaking, Serving, Over}
 use Rattle.server.specs.Session.{greeted, listing, declining, aborting, exporting, flagged, answered, passing, exportAt, found, named, naming, payload, opted}
 use Rattle.server.specs.Session.{sending, replying, storing, dropping, begun, requested, turn}
 use Rattle.server.specs.View.{view}
