@@ -30,7 +30,7 @@ use Rattle.server.specs.Session.{sending, replying, storing, dropping, b
 use Rattle.server.specs.View.{view}
 use Rattle.server.specs.Ranges.{refusal, Good}
 use Rattle.server.specs.Contract.{Serves}
-use Rattle.server.specs.Exchanges.{Apart, Has, announced, served, Only, Via, Chose, Untouched}
+use Rattle.server.specs.Exchanges.{Apart, Has, announced, served, Only, Via, via, Chose, Untouched}
 use Rattle.server.specs.declared.state.Server.{Server}
 use Rattle.server.specs.declared.Stepped.{Stepped}
 use Rattle.server.specs.declared.request.Request.{Request}
@@ -141,7 +141,7 @@ has-none : {p : Handshake} {e : Export} → None p → Has (Shaking p) e → ⊥
 has-none h announced = h
 
 module _ (t m₀ : List ℕ) where
-  -- where a turn of it leads: the image is as it was
+  -- where a turn of it leads, with the image as it was
   data Led : On State → Type 0 where
     on-way : (p : Handshake) → ((e : Export) → Has (Shaking p) e → ⊥) → Led (on (Shaking p) m₀)
     at-choice : (z : Bool) (k : ℕ) → Led (on (found z t (some k)) m₀)
@@ -218,48 +218,18 @@ module _ (t m₀ : List ℕ) where
   led (Aborting left) h = led-aborting (less left)
   led (Exporting z e left) h = absurd (h e announced)
 
-  -- ---- moves from there: up to no choice, or by one
+  -- ---- moves from there: the image is as it was, or they pass the place where an export is chosen
   data Ways (x : On State) (is os : List ℕ) (y : On State) : Type 0 where
     unchosen : {z : State} → y ≡ on z m₀ → Ways x is os y
-    by-choice : (z : Bool) (k : ℕ) → Via (turn t) x is os (on (found z t (some k)) m₀) y → Ways x is os y
+    by-choice : (z : Bool) (k : ℕ) → Via (turn t) x (on (found z t (some k)) m₀) y is os → Ways x is os y
 
   first-given : {x y z : On State} {b : ℕ} {is os : List ℕ} → turn t x ≡ gives b y → Ways y is os z → Ways x is (b ∷ os) z
   first-given q (unchosen e) = unchosen e
-  first-given {b = b} q (by-choice z k w) = by-choice z k record {
-    first-in = w .first-in;
-    first-out = b ∷ w .first-out;
-    more-in = w .more-in;
-    more-out = w .more-out;
-    to-place = by-give q (w .to-place);
-    from-place = w .from-place;
-    all-in = w .all-in;
-    all-out = ap (λ (l : List ℕ). b ∷ l) (w .all-out);
-  }
+  first-given q (by-choice z k (via p r)) = by-choice z k (via (by-give q p) r)
 
   first-taken : {x z : On State} {k : ℕ → On State} {b : ℕ} {is os : List ℕ} → turn t x ≡ takes k → Ways (k b) is os z → Ways x (b ∷ is) os z
   first-taken q (unchosen e) = unchosen e
-  first-taken {b = b} q (by-choice z k w) = by-choice z k record {
-    first-in = b ∷ w .first-in;
-    first-out = w .first-out;
-    more-in = w .more-in;
-    more-out = w .more-out;
-    to-place = by-take q (w .to-place);
-    from-place = w .from-place;
-    all-in = ap (λ (l : List ℕ). b ∷ l) (w .all-in);
-    all-out = w .all-out;
-  }
-
-  chosen-here : (z : Bool) (k : ℕ) {y : On State} {is os : List ℕ} → Moves (turn t) (on (found z t (some k)) m₀) is os y → Ways (on (found z t (some k)) m₀) is os y
-  chosen-here z k {is = is} {os = os} r = by-choice z k record {
-    first-in = [];
-    first-out = [];
-    more-in = is;
-    more-out = os;
-    to-place = still;
-    from-place = r;
-    all-in = refl;
-    all-out = refl;
-  }
+  first-taken q (by-choice z k (via p r)) = by-choice z k (via (by-take q p) r)
 
   stayed : {x : On State} → Led x → Ways x [] [] x
   stayed (on-way p h) = unchosen refl
@@ -268,13 +238,13 @@ module _ (t m₀ : List ℕ) where
 
   one-given : {x y z : On State} {b : ℕ} {is os : List ℕ} → Led x → turn t x ≡ gives b y → Moves (turn t) y is os z → (Led y → Ways y is os z) → Ways x is (b ∷ os) z
   one-given (on-way p h) q r more = first-given q (more (rw q at (led p h)))
-  one-given (at-choice z k) q r more = chosen-here z k (by-give q r)
+  one-given (at-choice z k) q r more = by-choice z k (via still (by-give q r))
   one-given at-end q r more = absurd (let z : _≡_ {A = ℕ} 0 1 = cc in omega arith)
 
   one-taken : {x z : On State} {k : ℕ → On State} {b : ℕ} {is os : List ℕ} → Led x → turn t x ≡ takes k → Moves (turn t) (k b) is os z → (Led (k b) → Ways (k b) is os z)
       → Ways x (b ∷ is) os z
   one-taken {b = b} (on-way p h) q r more = first-taken q (more ((rw q at (led p h)) b))
-  one-taken (at-choice z k) q r more = chosen-here z k (by-take q r)
+  one-taken (at-choice z k) q r more = by-choice z k (via still (by-take q r))
   one-taken at-end q r more = absurd (let z : _≡_ {A = ℕ} 0 1 = cc in omega arith)
 
   followed : {x y : On State} {is os : List ℕ} → Led x → Moves (turn t) x is os y → Ways x is os y
@@ -283,7 +253,7 @@ module _ (t m₀ : List ℕ) where
   followed l (by-take q r) = one-taken l q r (λ k. followed k r)
 
 -- ---- wherever the moves began
--- a number that no record has stands for an empty window
+-- a number that no record has stands for an empty window: then nothing was written
 some-record : (t : List ℕ) (k : ℕ) {m m′ : List ℕ} → Apart (exportAt t k) m m′ → (k < length (records t)) ⊎ (m′ ≡ m)
 some-record t k {m} {m′} a = go (ltb k (length (records t))) refl
   where
@@ -291,15 +261,16 @@ some-record t k {m} {m′} a = go (ltb k (length (records t))) refl
     go true q = inl (ltb-true k (length (records t)) q)
     go false q = let d : getD (records t) k blank ≡ blank = List·getD-eq-default (records t) blank (ltb-false k (length (records t)) q) in inr (rw d at (a .behind))
 
+passed : (t : List ℕ) (k : ℕ) {z : Bool} {m m′ is os : List ℕ} {x y : State} → Good t (length m) x
+    → Via (turn t) (on x m) (on (found z t (some k)) m) (on y m′) is os → Only (exportAt t k) m y m′
+passed t k g (via p r) = only (still-good p g .1) r announced
+
 chose : {t m m′ is os : List ℕ} {x y : State} → Good t (length m) x → Ways t m (on x m) is os (on y m′) → (m′ ≡ m) ⊎ Chose t m x is os y m′
 chose g (unchosen e) = inl cc
-chose {t} {m} {m′} {is} {os} {x} {y} g (by-choice z k w) = go (some-record t k (o .apart))
+chose {t} {m} {m′} {is} {os} {x} {y} g (by-choice z k w) = go (some-record t k (passed t k g w .apart))
   where
-    o : Only (exportAt t k) m y m′
-    o = only (still-good (w .to-place) g .1) (w .from-place) announced
-
     go : (k < length (records t)) ⊎ (m′ ≡ m) → (m′ ≡ m) ⊎ Chose t m x is os y m′
-    go (inl l) = inr record { number = k; listed = l; zeroes = z; way = w; only = o }
+    go (inl l) = inr record { number = k; listed = l; zeroes = z; way = w; only = passed t k g w }
     go (inr q) = inl q
 
 module _ {t m m′ is os : List ℕ} {y : State} where

@@ -6,7 +6,7 @@
 --   Apart    two images are as long, and have the same bytes before an export's window and behind it
 --   Has      the session has chosen the export: the reply that says so is owed, or the export is served
 --   Only     an image changed in the export's window only, and the session has that export still or is over
---   Via      moves that pass a place, with the bytes up to there and from there on
+--   Via      moves that pass a place: the bytes up to there, and those from there on
 --   Chose    on its way the session chose an export of the table, and wrote in that export's window only
 --   Untouched   "no other image byte is ever written": what is left of the image, by the export that the session had
 use Prim.Native.Nat.{ℕ, _+_, _^_, _<_}
@@ -65,23 +65,17 @@ pub record Only (e : Export) (m : List ℕ) (y : State) (m′ : List ℕ) : Type
   pub apart : Apart e m m′
   pub stays : Has y e ⊎ ((n : ℕ) × (y ≡ Over n))
 
-pub record Via {X : Type 0} (turn : X → Turn X) (x : X) (is os : List ℕ) (place y : X) : Type 0 where
-  pub first-in : List ℕ
-  pub first-out : List ℕ
-  pub more-in : List ℕ
-  pub more-out : List ℕ
-  pub to-place : Moves turn x first-in first-out place
-  pub from-place : Moves turn place more-in more-out y
-  pub all-in : is ≡ first-in ++ more-in
-  pub all-out : os ≡ first-out ++ more-out
+pub data Via {X : Type 0} (turn : X → Turn X) (x place y : X) : List ℕ → List ℕ → Type 0 where
+  via : {is os js ps : List ℕ} → Moves turn x is os place → Moves turn place js ps y → Via turn x place y (is ++ js) (os ++ ps)
 
--- ---- with the table t lent, from x and the image m to y and the image m′, by the bytes taken `is` and the bytes given `os`
--- a name was found in a record of t while the image was m
+-- ---- With the table t lent, a session takes the bytes `is` and gives `os`, from x and the image m to y and the image m′.
+
+-- it found a name in a record of t, while the image was m still
 pub record Chose (t m : List ℕ) (x : State) (is os : List ℕ) (y : State) (m′ : List ℕ) : Type 0 where
   pub number : ℕ
   pub listed : number < length (records t)
   pub zeroes : Bool
-  pub way : Via (turn t) (on x m) is os (on (found zeroes t (some number)) m) (on y m′)
+  pub way : Via (turn t) (on x m) (on (found zeroes t (some number)) m) (on y m′) is os
   pub only : Only (exportAt t number) m y m′
 
 pub record Untouched (t m : List ℕ) (x : State) (is os : List ℕ) (y : State) (m′ : List ℕ) : Type 0 where
