@@ -3,7 +3,7 @@
 --   greeting-taken   the client takes the greeting before it sends anything
 --   hello-sent       and then sends its flags, the option and the name
 --   name-taken       the server takes these before it answers
-use Prim.Native.Nat.{ℕ, _^_, _≤_, _<_}
+use Prim.Native.Nat.{ℕ, _≤_}
 use mathlib.Core.Path.{_≡_, refl, sym}
 use mathlib.Core.Bool.{true, false}
 use mathlib.Core.List.{List, [], _++_}
@@ -19,10 +19,8 @@ use Rattle.wire.specs.Constants.{NBD-OPT-EXPORT-NAME}
 use Rattle.wire.specs.Layouts.{greeting, optionRequest, exportName}
 use Rattle.wire.specs.Utf8.{run}
 use Rattle.wire.specs.Table.{records}
-use Rattle.wire.specs.Lookup.{started, narrowedBy, bits, word}
+use Rattle.wire.specs.Lookup.{started, narrowedBy}
 use Rattle.wire.specs.declared.utf8.Utf8.the-variants.{Start}
-use Rattle.wire.proofs.Words.{word-lt}
-use Rattle.wire.proofs.Found.{length-started}
 use Rattle.server.specs.Session as server
 use Rattle.server.proofs.Names.{Seen, sees, seen, stands, each-seen}
 use Rattle.server.proofs.Options.{whole-flags-1, option-judged}
@@ -59,12 +57,11 @@ hello-sent name =
 
 pub name-taken : (t m name : List ℕ) → length name ≤ 100000
     → Moves (server.turn t) (on (server.Shaking (server.ClientFlags [])) m) (exportName name) []
-    (on (server.named true t (word (narrowedBy (records t) 0 name (bits 32 (word (started (records t) (length name)))))) (run Start name)) m)
+    (on (server.named true t (narrowedBy (records t) 0 name (started (records t) (length name))) (run Start name)) m)
 unfolding exportName optionRequest server.payload
 name-taken t m name short =
     let set = started (records t) (length name) in
-    let l : word set < 2 ^ 32 = rw length-started at (word-lt set) in
-    let v : Seen = record { fits = word set; text = Start; at = 0 } in
+    let v : Seen = record { fits = set; text = Start; at = 0 } in
     let head = rw (le-leb (length name) 100000 short) at (option-judged t m true NBD-OPT-EXPORT-NAME (length name) (omega arith) (omega arith)) in
     let rest = folds (server.turn t) (stands true t) (sees t) (each-seen true t m) name v (length name) 0 (omega arith) in
-    then (whole-flags-1 t m) (then head (rw (seen t name (word set) Start 0 l) at rest))
+    then (whole-flags-1 t m) (then head (rw (seen t name set Start 0) at rest))

@@ -23,7 +23,7 @@ use Rattle.machine.proofs.Runs.{taken-length}
 use Rattle.wire.specs.Fields.{number, field, sameBytes}
 use Rattle.wire.specs.Constants.{IHAVEOPT, NBD-REQUEST-MAGIC}
 use Rattle.wire.specs.Utf8.{whole}
-use Rattle.wire.specs.Lookup.{chosen, bits}
+use Rattle.wire.specs.Lookup.{chosen}
 use Rattle.wire.specs.declared.utf8.Utf8.{Utf8}
 use Rattle.wire.specs.declared.table.Export.{Export}
 use Rattle.server.specs.Request.{requestOf, owed}
@@ -80,9 +80,9 @@ module _ (n : ℕ) where
   calm-found z t none = tt
   calm-found z t (some k) = tt
 
-  calm-naming : (z : Bool) (t : List ℕ) (fits : ℕ) (text : Utf8) (at left : ℕ) → Calm n (naming z t fits text at left)
+  calm-naming : (z : Bool) (t : List ℕ) (fits : List Bool) (text : Utf8) (at left : ℕ) → Calm n (naming z t fits text at left)
   unfolding named
-  calm-naming z t fits text at zero = picked (Calm n) (whole text) (λ _. calm-found z t (chosen (bits 32 fits))) (λ _. tt)
+  calm-naming z t fits text at zero = picked (Calm n) (whole text) (λ _. calm-found z t (chosen fits)) (λ _. tt)
   calm-naming z t fits text at (suc left) = tt
 
   calm-opted : (z : Bool) (t h : List ℕ) → Calm n (opted z t h)
