@@ -12,3 +12,4 @@ pub mod Places
 pub mod Walks
 pub mod Sieves
 pub mod Found
+pub mod Answers
