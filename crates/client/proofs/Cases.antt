@@ -10,7 +10,7 @@ use Rattle.wire.specs.Numbers.{added}
 use Rattle.client.specs.Session.{Ready}
 use Rattle.client.specs.View.{code}
 use Rattle.client.specs.Contract.{seeking}
-use Rattle.client.specs.declared.calls.SeekFrom.the-variants.{Current}
+use Rattle.client.specs.declared.state.SeekFrom.the-variants.{Current}
 use Rattle.client.specs.declared.state.Outcome.{Outcome}
 use Rattle.client.specs.declared.state.Outcome.the-variants.{Succeeded, Refused}
 use Rattle.client.specs.declared.state.Value.the-variants.{Position}

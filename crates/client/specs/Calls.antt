@@ -24,8 +24,8 @@ use Rattle.client.specs.declared.state.Value.{Value}
 use Rattle.client.specs.declared.state.Value.the-variants as value
 use Rattle.client.specs.declared.calls.Span.{Span}
 use Rattle.client.specs.declared.calls.Span.the-variants.{Bytes, Past}
-use Rattle.client.specs.declared.calls.SeekFrom.{SeekFrom}
-use Rattle.client.specs.declared.calls.SeekFrom.the-variants.{Start, Current, End}
+use Rattle.client.specs.declared.state.SeekFrom.{SeekFrom}
+use Rattle.client.specs.declared.state.SeekFrom.the-variants.{Start, Current, End}
 
 -- ---- the flags
 abbrev pub bit : ℕ → ℕ → Bool

@@ -26,7 +26,7 @@ use Rattle.client.specs.declared.state.Value.the-variants as value
 use Rattle.client.specs.declared.state.Outcome.{Outcome}
 use Rattle.client.specs.declared.state.Outcome.the-variants.{Open, Succeeded, Failed, Ended, Refused}
 use Rattle.client.specs.declared.state.Client.{Client}
-use Rattle.client.specs.declared.calls.SeekFrom.{SeekFrom}
+use Rattle.client.specs.declared.state.SeekFrom.{SeekFrom}
 use Rattle.client.specs.declared.Called.{Called}
 use Rattle.client.specs.declared.Stepped.{Stepped}
 use Rattle.client.specs.declared.Info.{Info}

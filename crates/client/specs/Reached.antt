@@ -4,7 +4,7 @@
 use Prim.Native.Nat.{ℕ}
 use mathlib.Core.List.{List}
 use Rattle.client.specs.Contract.{fresh, shaken, reading, writing, trimming, flushing, resizing, seeking, endOfInput, Drives}
-use Rattle.client.specs.declared.calls.SeekFrom.{SeekFrom}
+use Rattle.client.specs.declared.state.SeekFrom.{SeekFrom}
 use Rattle.client.specs.declared.state.Client.{Client}
 use Rattle.client.specs.declared.Called.{Called}
 use Rattle.client.specs.declared.Stepped.{Stepped}

@@ -1,5 +1,5 @@
 // The calls: how many bytes they move, their requests, their replies, and what a success changes.
-use crate::state;
+use crate::idle;
 use crate::state::Call;
 use crate::state::Client;
 use crate::state::Device;
@@ -7,6 +7,7 @@ use crate::state::Gave;
 use crate::state::Outcome;
 use crate::state::Phase;
 use crate::state::Progress;
+use crate::state::SeekFrom;
 use crate::state::Took;
 use crate::state::Value;
 use machine::copy;
@@ -52,12 +53,6 @@ ghost use Rattle.client.specs.Session.{
 };
 ghost use Rattle.client.specs.View.{view, viewOf, progressOf};
 ghost use Rattle.client.specs.Ranges.{Some, SoundCall, SoundProgress, lentTo};
-
-pub enum SeekFrom {
-    Start(u64),
-    Current(i64),
-    End(i64),
-}
 
 // How many bytes a call moves, or that the position is past the size.
 pub enum Span {
@@ -367,8 +362,8 @@ pub fn absorb(
     ensures { λ r. ⌜ Absorbs turn (on (Calling d c (progressOf head p)) (now (lent .entry))) (now (input .entry)) (r .taken) (on (view (r .state)) (now (lent .exit))) ⌝ }
 {
     match p {
-        Progress::Asking { left: _ } => state::takes_none(Phase::Calling(d, c, p), head),
-        Progress::Paying { left: _ } => state::takes_none(Phase::Calling(d, c, p), head),
+        Progress::Asking { left: _ } => idle::takes_none(Phase::Calling(d, c, p), head),
+        Progress::Paying { left: _ } => idle::takes_none(Phase::Calling(d, c, p), head),
         Progress::Hearing { have } => hear(head, d, c, have, input),
         Progress::Filling { left } => fill(head, d, c, left, input, lent),
     }
@@ -382,7 +377,7 @@ pub fn emit(head: [u8; 16], d: Device, c: Call, p: Progress, lent: &[u8], room: 
     match p {
         Progress::Asking { left } => ask(head, d, c, left, room),
         Progress::Paying { left } => pay(head, d, c, left, lent, room),
-        Progress::Hearing { have: _ } => state::gives_none(Phase::Calling(d, c, p), head),
-        Progress::Filling { left: _ } => state::gives_none(Phase::Calling(d, c, p), head),
+        Progress::Hearing { have: _ } => idle::gives_none(Phase::Calling(d, c, p), head),
+        Progress::Filling { left: _ } => idle::gives_none(Phase::Calling(d, c, p), head),
     }
 }

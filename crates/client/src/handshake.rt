@@ -1,5 +1,5 @@
 // The handshake: both styles, up to the 152nd byte.
-use crate::state;
+use crate::idle;
 use crate::state::Client;
 use crate::state::Device;
 use crate::state::Fields;
@@ -364,8 +364,8 @@ pub fn absorb(head: [u8; 16], name: usize, p: Handshake, input: &[u8]) -> Took
         Handshake::Magic { have } => take_magic(head, name, have, input),
         Handshake::Style { have } => take_style(head, name, have, input),
         Handshake::Newstyle { left } => skip_flags(head, name, left, input.len()),
-        Handshake::Hello { left: _ } => state::takes_none(Phase::Shaking(name, p), head),
-        Handshake::Naming { left: _ } => state::takes_none(Phase::Shaking(name, p), head),
+        Handshake::Hello { left: _ } => idle::takes_none(Phase::Shaking(name, p), head),
+        Handshake::Naming { left: _ } => idle::takes_none(Phase::Shaking(name, p), head),
         Handshake::Terms { old, have } => take_terms(head, name, old, have, input),
         Handshake::Filler {
             size,
@@ -382,17 +382,17 @@ pub fn emit(head: [u8; 16], name: usize, p: Handshake, lent: &[u8], room: &mut [
     ensures { λ r. ⌜ Emits turn (on (Shaking name (handshakeOf head p)) (now (lent .entry))) (now (room .entry)) (r .given) (on (view (r .state)) (now (lent .entry))) (now (room .exit)) ⌝ }
 {
     match p {
-        Handshake::Magic { have: _ } => state::gives_none(Phase::Shaking(name, p), head),
-        Handshake::Style { have: _ } => state::gives_none(Phase::Shaking(name, p), head),
-        Handshake::Newstyle { left: _ } => state::gives_none(Phase::Shaking(name, p), head),
+        Handshake::Magic { have: _ } => idle::gives_none(Phase::Shaking(name, p), head),
+        Handshake::Style { have: _ } => idle::gives_none(Phase::Shaking(name, p), head),
+        Handshake::Newstyle { left: _ } => idle::gives_none(Phase::Shaking(name, p), head),
         Handshake::Hello { left } => send_hello(head, name, left, room),
         Handshake::Naming { left } => send_name(head, name, left, lent, room),
-        Handshake::Terms { old: _, have: _ } => state::gives_none(Phase::Shaking(name, p), head),
+        Handshake::Terms { old: _, have: _ } => idle::gives_none(Phase::Shaking(name, p), head),
         Handshake::Filler {
             size: _,
             flags: _,
             clean: _,
             left: _,
-        } => state::gives_none(Phase::Shaking(name, p), head),
+        } => idle::gives_none(Phase::Shaking(name, p), head),
     }
 }

@@ -1,10 +1,10 @@
 // An NBD client without sockets: the host lends slices, and hands a state in and gets it back.
-pub mod calls;
-pub mod handshake;
-pub mod ranges;
+mod calls;
+mod handshake;
+mod idle;
+mod ranges;
 pub mod state;
 
-use calls::SeekFrom;
 use calls::Span;
 use machine::copy;
 use state::Call;
@@ -16,6 +16,7 @@ use state::Moved;
 use state::Outcome;
 use state::Phase;
 use state::Progress;
+use state::SeekFrom;
 use state::Took;
 use state::Value;
 use wire::number::Added;
@@ -383,12 +384,12 @@ impl Client {
         let head = self.head;
         let p = self.phase;
         match p {
-            Phase::Blank => state::takes_none(p, head),
+            Phase::Blank => idle::takes_none(p, head),
             Phase::Shaking(name, h) => handshake::absorb(head, name, h, input),
-            Phase::Ready(_) => state::takes_none(p, head),
+            Phase::Ready(_) => idle::takes_none(p, head),
             Phase::Calling(d, c, g) => calls::absorb(head, d, c, g, input, lent),
-            Phase::Closed(_, _) => state::takes_none(p, head),
-            Phase::Over(_) => state::takes_none(p, head),
+            Phase::Closed(_, _) => idle::takes_none(p, head),
+            Phase::Over(_) => idle::takes_none(p, head),
         }
     }
 
@@ -400,12 +401,12 @@ impl Client {
         let head = self.head;
         let p = self.phase;
         match p {
-            Phase::Blank => state::gives_none(p, head),
+            Phase::Blank => idle::gives_none(p, head),
             Phase::Shaking(name, h) => handshake::emit(head, name, h, lent, room),
-            Phase::Ready(_) => state::gives_none(p, head),
+            Phase::Ready(_) => idle::gives_none(p, head),
             Phase::Calling(d, c, g) => calls::emit(head, d, c, g, lent, room),
-            Phase::Closed(_, _) => state::gives_none(p, head),
-            Phase::Over(_) => state::gives_none(p, head),
+            Phase::Closed(_, _) => idle::gives_none(p, head),
+            Phase::Over(_) => idle::gives_none(p, head),
         }
     }
 

@@ -1,5 +1,4 @@
 // Where a session stands. The phases are named as in specs/Session.antt; docs/STATES.md has their ranges.
-ghost use mathlib.Core.Path.{_≡_};
 
 // What the export's flags say.
 pub struct Fields {
@@ -25,6 +24,13 @@ pub enum Call {
     Trim { n: u32 },
     // to the new size
     Resize { size: u64 },
+}
+
+// Where a seek starts, and how far it goes.
+pub enum SeekFrom {
+    Start(u64),
+    Current(i64),
+    End(i64),
 }
 
 // What a success gives.
@@ -131,24 +137,4 @@ pub struct Moved {
     pub state: Client,
     pub taken: usize,
     pub given: usize,
-}
-
-// Nothing is taken, and nothing is given.
-
-pub fn takes_none(phase: Phase, head: [u8; 16]) -> Took
-    ensures { λ r. ⌜ r ≡ record { state = record { phase = phase; head = head }; taken = 0 } ⌝ }
-{
-    Took {
-        state: Client { phase, head },
-        taken: 0,
-    }
-}
-
-pub fn gives_none(phase: Phase, head: [u8; 16]) -> Gave
-    ensures { λ r. ⌜ r ≡ record { state = record { phase = phase; head = head }; given = 0 } ⌝ }
-{
-    Gave {
-        state: Client { phase, head },
-        given: 0,
-    }
 }

@@ -21,7 +21,7 @@ use Rattle.client.specs.Session as client
 use Rattle.client.specs.View.{code}
 use Rattle.client.specs.Calls.{device, positioned}
 use Rattle.client.specs.Contract as calls
-use Rattle.client.specs.declared.calls.SeekFrom.the-variants.{Current}
+use Rattle.client.specs.declared.state.SeekFrom.the-variants.{Current}
 use Rattle.client.specs.declared.Called.{Called}
 use Rattle.joined.specs.Disk.{seek, from-here, Result, result}
 

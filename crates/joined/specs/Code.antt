@@ -32,8 +32,8 @@ use Rattle.client.specs.declared.state.Client.{Client}
 use Rattle.client.specs.declared.state.Device.{Device}
 use Rattle.client.specs.declared.state.Outcome.{Outcome}
 use Rattle.client.specs.declared.state.Outcome.the-variants.{Open, Succeeded, Failed, Ended, Refused}
-use Rattle.client.specs.declared.calls.SeekFrom.{SeekFrom}
-use Rattle.client.specs.declared.calls.SeekFrom.the-variants.{Start, Current, End}
+use Rattle.client.specs.declared.state.SeekFrom.{SeekFrom}
+use Rattle.client.specs.declared.state.SeekFrom.the-variants.{Start, Current, End}
 use Rattle.client.specs.declared.Called.{Called}
 use Rattle.client.specs.declared.Stepped as driven
 use Rattle.joined.specs.Disk.{Disk, From, from-start, from-here, from-end, Call, read, write, seek, flush, trim, Result, succeeds}

@@ -28,8 +28,8 @@ use Rattle.client.specs.declared.state.Call.the-variants.{Read, Write, Flush, T
 use Rattle.client.specs.declared.state.Value.the-variants.{Position}
 use Rattle.client.specs.declared.state.Outcome.{Outcome}
 use Rattle.client.specs.declared.state.Outcome.the-variants.{Open, Succeeded, Failed, Ended, Refused}
-use Rattle.client.specs.declared.calls.SeekFrom.{SeekFrom}
-use Rattle.client.specs.declared.calls.SeekFrom.the-variants.{Start, Current, End}
+use Rattle.client.specs.declared.state.SeekFrom.{SeekFrom}
+use Rattle.client.specs.declared.state.SeekFrom.the-variants.{Start, Current, End}
 use Rattle.original.specs.Client.{Answer, Done, stops, ok, failed, refused, fault, exchange, fill, effectiveLen, readSome, writeSome, trimSome, seekTo, target, Call, read, write, flush, trim, resize, seek, made}
 use Rattle.original.specs.ClientSession.{asked, buffer}
 use Rattle.original.proofs.ClientMeets.{clientOf, Meets}

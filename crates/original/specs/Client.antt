@@ -18,8 +18,8 @@ use Rattle.wire.specs.Numbers.{clamped, added}
 use Rattle.wire.specs.Constants.{NBDMAGIC, IHAVEOPT, OLDSTYLE, NBD-REPLY-MAGIC, NBD-FLAG-HAS-FLAGS, NBD-FLAG-READ-ONLY, NBD-FLAG-SEND-FLUSH, NBD-FLAG-ROTATIONAL, NBD-FLAG-SEND-TRIM, NBD-FLAG-SEND-RESIZE}
 use Rattle.wire.specs.Constants.{NBD-CMD-READ, NBD-CMD-WRITE, NBD-CMD-FLUSH, NBD-CMD-TRIM, NBD-CMD-RESIZE}
 use Rattle.wire.specs.Layouts.{exportName, request}
-use Rattle.client.specs.declared.calls.SeekFrom.{SeekFrom}
-use Rattle.client.specs.declared.calls.SeekFrom.the-variants.{Start, Current, End}
+use Rattle.client.specs.declared.state.SeekFrom.{SeekFrom}
+use Rattle.client.specs.declared.state.SeekFrom.the-variants.{Start, Current, End}
 use Rattle.original.specs.Connection.{readExact, readNumber}
 
 pub record NbdClient : Type 0 where

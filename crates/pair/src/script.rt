@@ -1,7 +1,7 @@
 // The calls that are made, on an export of 32 bytes: four labels of 8.
 use client::Called;
-use client::calls::SeekFrom;
 use client::state::Client;
+use client::state::SeekFrom;
 use machine::copy;
 ghost use mathlib.Core.Path.{_≡_};
 ghost use Prim.Native.Nat.{_≤_};
