@@ -4,6 +4,7 @@ pub mod Header
 pub mod Sound
 pub mod Refusals
 pub mod Tidy
+pub mod Numbers
 pub mod Result
 pub mod Alone
 pub mod Changes

@@ -3,7 +3,7 @@
 --   endOfInput             the host reports the end of input
 --   known                  what a user asks
 --   Drives                 a step: refused, with nothing changed; or as far as the input and the room go
---   numberOf, valuesOf     01's number and values for each outcome
+--   numberOf, valuesOf     01's number and values for each outcome; numberAt, valuesAt: and for each place where a step ends
 use Prim.Native.Nat.{ℕ}
 use mathlib.Core.Path.{_≡_}
 use mathlib.Core.List.{List, [], _∷_}
@@ -190,9 +190,28 @@ outcomeOf (Calling d c p) = Open
 outcomeOf (Closed o d) = o
 outcomeOf (Over n) = Ended n
 
+-- and 01's number and values there
+abbrev pub numberAt : State → Option ℕ
+numberAt Blank = none
+numberAt (Shaking n p) = none
+numberAt (Ready d) = none
+numberAt (Calling d c p) = none
+numberAt (Closed o d) = numberOf o
+numberAt (Over n) = some n
+
+abbrev pub valuesAt : State → List ℕ
+valuesAt Blank = []
+valuesAt (Shaking n p) = []
+valuesAt (Ready d) = []
+valuesAt (Calling d c p) = []
+valuesAt (Closed o d) = valuesOf o
+valuesAt (Over n) = []
+
 module _ (self : Client) (m input room : List ℕ) (r : Stepped) (m′ room′ : List ℕ) where
   pub record Refuses : Type 0 where
     pub result : r ≡ record { state = self; taken = 0; given = 0; outcome = Refused (refusal (length m) self) }
+    pub number : numberOf (r .outcome) ≡ some (refusal (length m) self)
+    pub values : valuesOf (r .outcome) ≡ []
     pub same-lent : m′ ≡ m
     pub same-room : room′ ≡ room
 
@@ -202,6 +221,8 @@ module _ (self : Client) (m input room : List ℕ) (r : Stepped) (m′ room′ :
     pub steps : Steps turn (on (view self) m) input room (r .taken) (r .given) (on place m′) room′
     pub state : r .state ≡ code (after place)
     pub outcome : r .outcome ≡ outcomeOf place
+    pub number : numberOf (r .outcome) ≡ numberAt place
+    pub values : valuesOf (r .outcome) ≡ valuesAt place
 
   pub record Drives : Type 0 where
     pub refuses : (refusal (length m) self ≡ 0 → ⊥) → Refuses

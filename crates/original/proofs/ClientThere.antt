@@ -27,6 +27,7 @@ use Rattle.client.specs.declared.state.Outcome.{Outcome}
 use Rattle.client.specs.declared.state.Outcome.the-variants.{Open, Succeeded, Failed, Ended, Refused}
 use Rattle.client.specs.declared.Stepped as driven
 use Rattle.client.proofs.Tidy.{viewed}
+use Rattle.client.proofs.Numbers.{numbered, valued}
 use Rattle.client.proofs.Result.{in-ranges}
 use Rattle.original.specs.Client.{Answer, Done, Call, made, handshake}
 use Rattle.original.specs.ClientSession.{Told, silence, tells, calls, session, asked, buffer, told, isOpen, isClosed, Stepped, closing, ending}
@@ -75,7 +76,7 @@ module _ {x₀ : State} {m input : List ℕ} (o : Done) (meets : Meets (on x₀ 
   pub met : Drives (code x₀) m (take (length input) input) room result (o .buffer) (o .sent)
   met = record {
     refuses = λ no. absurd (no fine);
-    accepts = λ _. record { place = meets .state; steps = rw (take-length input, viewed x₀) as-far; state = refl; outcome = refl };
+    accepts = λ _. record { place = meets .state; steps = rw (take-length input, viewed x₀) as-far; state = refl; outcome = refl; number = numbered (meets .state); values = valued (meets .state) };
   }
 
   steps-once : Made (code x₀) m input

@@ -1,5 +1,9 @@
 -- The bytes are copied to the place where the data so far ends, which is a run of stores.
+use Prim.Native.Nat.{ℕ, _-_}
+use mathlib.Core.Path.{ap, _∙_}
 use borrow.Author.Needs.{needs}
+use denote.Ref.{now}
+use lib.Seq.{paste}
 use Rattle.client.proofs.Runs.{fill-leaf}
 use Rattle.client.proofs.calls.fill.Statement.{statement}
 use Rattle.client.proofs.calls.fill.Tie as tie
@@ -32,7 +36,9 @@ returns : tie.Need-returns
 returns c =
     let a = c .before .before .before .before .before .before .before .before .before .args in
     let p = c .before .before .before .before .before .before .before .before .before .pre in
-    fill-leaf (a .d) (a .c) (p .2 .0) (p .2 .1) (p .1) (c .before .before .before .before .before .least .ensures) (c .filling .ensures (a .head)) (rw (c .before .before .before .before .before .before .wanted .ensures) at (c .before .before .before .copy-part .ensures))
+    let n = c .before .before .before .before .before .least .result in
+    let place = ap (λ (all : ℕ). paste (now (a .lent)) (all - a .left) (now (a .input)) n) (c .before .before .before .before .before .before .wanted .ensures) in
+    fill-leaf (a .d) (a .c) (p .2 .0) (p .2 .1) (p .1) (c .before .before .before .before .before .least .ensures) (c .filling .ensures (a .head)) (c .before .before .before .copy-part .ensures ∙ place)
 
 pub fill-spec : {M : Type 1} → statement M
 fill-spec =

@@ -1,9 +1,12 @@
 -- A refused client comes back as it was; any other is advanced, and handed back as the client of the place that it came to.
-use mathlib.Core.Path.{_≡_, refl, sym, _∙_}
+use mathlib.Core.Path.{_≡_, refl, sym, ap, _∙_}
+use mathlib.Core.Option.{some}
 use borrow.Author.Needs.{needs}
 use denote.Ref.{now}
 use lib.ListN.{length}
 use Rattle.client.specs.View.{view}
+use Rattle.client.specs.Contract.{numberOf, valuesOf}
+use Rattle.client.proofs.Numbers.{numbered, valued}
 use Rattle.client.proofs.Refusals.{accepted}
 use Rattle.client.proofs.Sound.{sound}
 use Rattle.client.proofs.Tidy.{used-fits}
@@ -20,7 +23,7 @@ returns : tie.Need-returns
 returns c =
     let e = c .before .refusal .ensures in
     record {
-      refuses = λ _. record { result = rw e; same-lent = refl; same-room = refl };
+      refuses = λ _. record { result = rw e; number = ap some e; values = refl; same-lent = refl; same-room = refl };
       accepts = λ z. absurd (c .if1 .taken (e ∙ z));
     }
 
@@ -47,9 +50,17 @@ returns-2 : tie.Need-returns-2
 returns-2 c =
     let end = c .before .before .before .before .before .before .before .advance .result .state in
     let fine = sym (c .before .before .before .before .before .before .before .before .before .before .before .refusal .ensures) ∙ c .before .before .before .before .before .before .before .before .before .before .if1 .left in
+    let told = c .before .told .ensures (end .head) in
     record {
       refuses = λ z. absurd (z fine);
-      accepts = λ _. record { place = view end; steps = c .before .before .before .before .before .before .before .advance .ensures; state = c .rested .ensures; outcome = c .before .told .ensures (end .head) };
+      accepts = λ _. record {
+        place = view end;
+        steps = c .before .before .before .before .before .before .before .advance .ensures;
+        state = c .rested .ensures;
+        outcome = told;
+        number = ap numberOf told ∙ numbered (view end);
+        values = ap valuesOf told ∙ valued (view end);
+      };
     }
 
 pub step-spec : {M : Type 1} → statement M
