@@ -1,5 +1,5 @@
 -- While the client has something open, a side that can move carries a byte in each step.
---   unsettled   a client that is not ready stands in the driver as it is
+--   unsettled   a client that is neither blank nor ready stands in the driver as it is
 --   carried     so a move of the machines is one that the code makes
 use Prim.Native.Nat.{ℕ}
 use mathlib.Core.Path.{_≡_, refl, sym, ap, _∙_}
@@ -23,7 +23,7 @@ use Rattle.client.specs.declared.state.Device.{Device}
 use Rattle.client.proofs.Refusals.{in-range}
 use Rattle.client.proofs.Result.{in-ranges}
 use Rattle.joined.specs.Disk.{Call, Result}
-use Rattle.joined.specs.Code.{joint, Ready, ClientCarries, ServerCarries}
+use Rattle.joined.specs.Code.{joint, Unclosed, ClientCarries, ServerCarries}
 use Rattle.joined.proofs.Driver.{Driver, busy, settle, drive}
 use Rattle.joined.proofs.Coded.{Fit, stands}
 
@@ -37,18 +37,18 @@ wants-through f (gives b x) = refl
 wants-through f (takes k) = refl
 wants-through f rests = refl
 
-unsettled-at : (x : client.State) (m : List ℕ) (ks : List Call) (rs : List Result) → ranged x ≡ true → ((d : Device) → x ≡ client.Ready d → ⊥)
+unsettled-at : (x : client.State) (m : List ℕ) (ks : List Call) (rs : List Result) → ranged x ≡ true → (x ≡ client.Blank → ⊥) → ((d : Device) → x ≡ client.Ready d → ⊥)
     → settle (on x m) ks rs ≡ busy x m ks rs
-unsettled-at client.Blank m ks rs e h = refl
-unsettled-at (client.Shaking n p) m ks rs e h = refl
-unsettled-at (client.Ready d) m ks rs e h = absurd (h d refl)
-unsettled-at (client.Calling d c p) m ks rs e h = refl
-unsettled-at (client.Closed o d) m ks rs e h = absurd (let z : _≡_ {A = ℕ} 0 1 = cc in omega arith)
-unsettled-at (client.Over n) m ks rs e h = refl
+unsettled-at client.Blank m ks rs e b h = absurd (b refl)
+unsettled-at (client.Shaking n p) m ks rs e b h = refl
+unsettled-at (client.Ready d) m ks rs e b h = absurd (h d refl)
+unsettled-at (client.Calling d c p) m ks rs e b h = refl
+unsettled-at (client.Closed o d) m ks rs e b h = absurd (let z : _≡_ {A = ℕ} 0 1 = cc in omega arith)
+unsettled-at (client.Over n) m ks rs e b h = refl
 
-module _ {t : List ℕ} {c : Client} {s : Server} {img : List ℕ} (m : List ℕ) (ks : List Call) (rs : List Result) (fit : Fit t c m s img) (unclosed : Ready c → ⊥) where
+module _ {t : List ℕ} {c : Client} {s : Server} {img : List ℕ} (m : List ℕ) (ks : List Call) (rs : List Result) (fit : Fit t c m s img) (unclosed : Unclosed c) where
   pub unsettled : settle (on (view c) m) ks rs ≡ busy (view c) m ks rs
-  unsettled = unsettled-at (view c) m ks rs (in-range c (in-ranges (fit .reached))) (λ d e. unclosed (record { device = d; rests = e }))
+  unsettled = unsettled-at (view c) m ks rs (in-range c (in-ranges (fit .reached))) (unclosed .called) (λ d e. unclosed .not-ready (record { device = d; rests = e }))
 
   through-turn : {x : Turn Driver} → drive (settle (on (view c) m) ks rs) ≡ x → through (λ y. settle y ks rs) (turn (on (view c) m)) ≡ x
   through-turn q = ap drive (sym unsettled) ∙ q

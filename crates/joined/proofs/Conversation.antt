@@ -1,13 +1,12 @@
 -- The handshake and all calls as one talk of the two machines, its start and its end.
 --   talk, length-up, length-down   the talk, and how many bytes it has: 01's formula
---   fit, starts, executed          a run of the code from the start is an execution from there, in which no step is refused
+--   fit, executed                  a run of the code from the start is an execution from there, in which no step is refused
 --   ended                          what the end says of results and image
 --   last-round, length-results     the last of some rounds; as many results as calls
 use Prim.Native.Nat.{ℕ, suc, _+_}
 use mathlib.Core.Path.{_≡_, refl, sym, ap, _∙_}
 use mathlib.Core.Bool.{true}
 use mathlib.Core.List.{List, [], _∷_, _++_}
-use borrow.Author.Tests.{le-leb, eq-eqb}
 use lib.ListN.{length, take, drop, length-append}
 use Rattle.machine.specs.Machine.{On, on}
 use Rattle.machine.specs.Bytes.{Bytes}
@@ -21,8 +20,8 @@ use Rattle.server.specs.View.{code}
 use Rattle.server.specs.declared.state.Server.{Server}
 use Rattle.client.specs.Session as client
 use Rattle.client.specs.Calls.{device}
-use Rattle.client.specs.Contract.{shaken, fresh}
-use Rattle.client.specs.Reached.{to-shake, at-first, by-call}
+use Rattle.client.specs.Contract.{fresh}
+use Rattle.client.specs.Reached.{at-first}
 use Rattle.client.specs.declared.state.Client.{Client}
 use Rattle.joined.specs.Disk.{Disk, Call, Result, after, results, final, placed}
 use Rattle.joined.specs.Carried.{upAll, downAll}
@@ -33,7 +32,7 @@ use Rattle.joined.proofs.Driver.{Driver, busy, over, next, settle, driv
 use Rattle.joined.proofs.Coded.{Fit, Fits, stands, runs-exec}
 use Rattle.joined.proofs.Calls.{Told, calls-talk}
 use Rattle.joined.proofs.Formula.{length-questions, length-answers}
-use Rattle.joined.proofs.Opening.{begun, sound-record, short, front, in-parts, first-agrees, handshake-talk, carried-up, carried-down}
+use Rattle.joined.proofs.Opening.{sound-record, short, front, in-parts, first-agrees, handshake-talk, carried-up, carried-down}
 
 pub length-results : (ks : List Call) (k : Disk) → length (results k ks) ≡ length ks
 length-results [] k = refl
@@ -90,15 +89,8 @@ module _ {t img name : List ℕ} {k : ℕ} (holds : Holds t img name k) (ks : Li
   length-down = length-append (greeting ++ exportReply (e .size) (wireFlags (e .flags)) true) (answers plain ks) ∙ rw (carried-down holds, length-answers ks plain)
 
   -- ---- the start
-  pub fit : Fit t (shaken (length name) fresh .state) name (code (Shaking (Greeting 18))) img
-  fit = record {
-    reached = by-call (to-shake (length name)) at-first;
-    client-fits = rw (begun (length name) (short holds), le-leb (length name) 4096 (short holds), eq-eqb (length name) (length name) refl);
-    server-fits = rw (holds .sound);
-  }
-
-  pub starts : stands (begin name ks img) ≡ sys start (on (Shaking (Greeting 18)) img) [] []
-  starts = rw (begun (length name) (short holds))
+  pub fit : Fit t fresh name (code (Shaking (Greeting 18))) img
+  fit = record { reached = at-first; client-fits = refl; name-fits = λ _. short holds; server-fits = rw (holds .sound) }
 
   -- ---- the end
   abbrev pub Outcome : List Result → List ℕ → Type 0
@@ -113,4 +105,4 @@ module _ {t img name : List ℕ} {k : ℕ} (holds : Holds t img name k) (ks : Li
 
   pub executed : {cu cd : ℕ} {b : Bytes} {z : Code} → Runs t cu cd b (begin name ks img) z
       → Exec drive (serve t) cu cd b (sys start (on (Shaking (Greeting 18)) img) [] []) (stands z) × Fits t z
-  executed p = let i = runs-exec p fit in (rw starts at (i .0), i .1)
+  executed p = runs-exec p fit

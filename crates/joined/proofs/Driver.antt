@@ -1,5 +1,5 @@
--- A client with calls to make, as one machine. Each call is made as soon as the one before it is closed, and one that closes at once is passed by, so
--- that every move of this machine carries a byte.
+-- A client with calls to make, as one machine. The handshake is called at once, and each call is made as soon as the one before it is closed; one that
+-- closes at once is passed by, so that every move of this machine carries a byte.
 --   Driver        the client's state, what is lent to it, the calls left and the results so far; or the results of all
 --   Begun, begin  what a call on a ready client leads to: it goes out, or it is closed at once
 --   next          the next call that goes out
@@ -14,7 +14,7 @@ use Rattle.machine.specs.Choice.{pick}
 use Rattle.machine.specs.Machine.{On, on, Turn, rests}
 use Rattle.machine.specs.Follows.{through}
 use Rattle.client.specs.Calls.{transfer, sought, amount, valueOf, positioned}
-use Rattle.client.specs.Session.{Asking, State, Blank, Shaking, Ready, Calling, Closed, Over, turn}
+use Rattle.client.specs.Session.{Magic, Asking, State, Blank, Shaking, Ready, Calling, Closed, Over, turn}
 use Rattle.client.specs.declared.state.Device.{Device}
 use Rattle.client.specs.declared.state.Call as request
 use Rattle.client.specs.declared.state.Call.the-variants.{Read, Write, Flush, Trim}
@@ -58,7 +58,7 @@ next d [] rs = over rs
 next d (k ∷ ks) rs = going d (begin d k) (buffer k) ks rs (λ d′ rs′. next d′ ks rs′)
 
 abbrev pub settle : On State → List Call → List Result → Driver
-settle (on Blank m) ks rs = busy Blank m ks rs
+settle (on Blank m) ks rs = busy (Shaking (length m) (Magic [])) m ks rs
 settle (on (Shaking n p) m) ks rs = busy (Shaking n p) m ks rs
 settle (on (Ready d) m) ks rs = next d ks rs
 settle (on (Calling d c p) m) ks rs = busy (Calling d c p) m ks rs

@@ -2,8 +2,10 @@
 --   followed, follows    its moves are the client's
 --   told                 a step's outcome, collected, is what the place it came to says
 --   made, lends          a call on a ready client: what its contract says is what the driver has
+--   not-blank-after      and it leads to no blank client
 --   already              so the driver stands there before the call is made
-use Prim.Native.Nat.{ℕ}
+--   shaken-already       and before the handshake is called
+use Prim.Native.Nat.{ℕ, _≤_}
 use mathlib.Core.Path.{_≡_, refl, sym, ap, _∙_}
 use mathlib.Core.Bool.{Bool, true, false}
 use mathlib.Core.List.{List, [], _∷_}
@@ -19,7 +21,7 @@ use Rattle.client.specs.Calls.{transfer, sought, amount, valueOf}
 use Rattle.client.specs.Session.{State, Blank, Shaking, Ready, Calling, Closed, Over, turn}
 use Rattle.client.specs.View.{view}
 use Rattle.client.specs.Ranges.{inRange, lentTo, lent}
-use Rattle.client.specs.Contract.{may, called, answer, opened, grantedAt, grantedOn, moving, soughtTo, after, outcomeOf}
+use Rattle.client.specs.Contract.{shaken, may, called, answer, opened, grantedAt, grantedOn, moving, soughtTo, after, outcomeOf}
 use Rattle.client.specs.declared.state.Device.{Device}
 use Rattle.client.specs.declared.state.Call as request
 use Rattle.client.specs.declared.state.Call.the-variants.{Read, Write, Flush, Trim}
@@ -30,11 +32,12 @@ use Rattle.client.specs.declared.May.{May}
 use Rattle.client.specs.declared.May.the-variants as may-be
 use Rattle.joined.specs.Disk.{Call, read, write, seek, flush, trim, Result}
 use Rattle.joined.specs.Code.{seekFrom, calls, buffer, collected}
+use Rattle.joined.proofs.Called.{NotBlank, begun}
 use Rattle.joined.proofs.Driver.{Begun, out, shut, granted, soughtAt, begin, going, next, settle, drive}
 
 module _ (ks : List Call) (rs : List Result) where
   pub followed : Follows turn drive (λ x. settle x ks rs)
-  followed (on Blank m) h = refl
+  followed (on Blank m) h = absurd (h refl)
   followed (on (Shaking n p) m) h = refl
   followed (on (Ready d) m) h = absurd (h refl)
   followed (on (Calling d c p) m) h = refl
@@ -122,6 +125,19 @@ module _ (k : Call) (c : Client) (d : Device) (ready : view c ≡ Ready d) (fine
   pub lent-after : lent (length (buffer k)) (view (calls k c .state)) ≡ true
   lent-after = lent-to d (begin d k) (buffer k) (calls k c) (made c d ready fine k) (lends d k)
 
+  pub not-blank-after : NotBlank (view (calls k c .state))
+  not-blank-after = go (begin d k) (calls k c) (made c d ready fine k)
+    where
+      go : (b : Begun) (r : Called) → Made d b r → NotBlank (view (r .state))
+      go (out q) r e = rw e tt
+      go (shut o d′) r e = rw (e .1) tt
+
   pub already : (m : List ℕ) (ks : List Call) (rs : List Result)
       → settle (on (view (calls k c .state)) (buffer k)) ks (collected (calls k c .outcome) (buffer k) rs) ≡ settle (on (view c) m) (k ∷ ks) rs
   already m ks rs = stands-at d (begin d k) (buffer k) (calls k c) ks rs (made c d ready fine k) ∙ ap (λ (x : State). settle (on x m) (k ∷ ks) rs) (sym ready)
+
+pub shaken-already : (c : Client) (m : List ℕ) (ks : List Call) (rs : List Result) → view c ≡ Blank → inRange c ≡ true → length m ≤ 4096
+    → settle (on (view (shaken (length m) c .state)) m) ks (collected (shaken (length m) c .outcome) m rs) ≡ settle (on (view c) m) ks rs
+shaken-already c m ks rs blank fine h =
+    ap (λ (r : Called). settle (on (view (r .state)) m) ks (collected (r .outcome) m rs)) (begun c (length m) blank fine h)
+    ∙ ap (λ (x : State). settle (on x m) ks rs) (sym blank)

@@ -1,5 +1,6 @@
 pub mod TakenOff
 pub mod Wired
+pub mod Called
 pub mod Driver
 pub mod Driving
 pub mod Coded

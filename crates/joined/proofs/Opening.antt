@@ -1,13 +1,12 @@
 -- The handshake: the two machines talk, and what the client is told is what the record says.
 --   same-fields      the five fields by the wire's flags are those of the table's flags
---   begun            the handshake's call on a fresh client
 --   handshake-talk   from a fresh client and a fresh server to the first call
 use Prim.Native.Nat.{ℕ, _+_, _-_, _/_, _%_, _^_, _≤_, _<_}
 use mathlib.Core.Path.{_≡_, refl, sym, ap, _∙_}
 use mathlib.Core.Bool.{Bool, true, false, not}
 use mathlib.Core.List.{List, [], _∷_, _++_}
 use native.Mathlib.Omega.{arith}
-use borrow.Author.Tests.{eqb-true, eqb-false, le-leb}
+use borrow.Author.Tests.{eqb-true, eqb-false}
 use lib.Dec.{eqb}
 use lib.ListN.{length, take, drop, length-drop, take-append-drop}
 use lib.Seq.{length-take-le, take-add}
@@ -28,8 +27,8 @@ use Rattle.server.proofs.Whole.{greeting-given}
 use Rattle.server.proofs.Options.{whole-flags-1, whole-export}
 use Rattle.client.specs.Calls.{fieldsOf, device}
 use Rattle.client.specs.Session.{Magic, Shaking, Closed, turn}
-use Rattle.client.specs.Contract.{fresh, shaken, answer, fieldsValues}
-use Rattle.client.specs.declared.state.Outcome.the-variants.{Open, Succeeded}
+use Rattle.client.specs.Contract.{fieldsValues}
+use Rattle.client.specs.declared.state.Outcome.the-variants.{Succeeded}
 use Rattle.client.specs.declared.state.Value.the-variants.{Opened}
 use Rattle.client.proofs.Alone.{handshake-new, carried-new}
 use Rattle.joined.specs.Disk.{Call}
@@ -94,10 +93,6 @@ flags-fit f =
     let c = at-most (bit 2 f) 16 0 16 (omega arith) (omega arith) in
     let d = at-most (bit 3 f) 32 0 32 (omega arith) (omega arith) in
     omega arith
-
--- ---- the handshake's call
-pub begun : (n : ℕ) → n ≤ 4096 → shaken n fresh ≡ answer (Shaking n (Magic [])) Open
-begun n h = rw (le-leb n 4096 h)
 
 module _ {t img name : List ℕ} {k : ℕ} (holds : Holds t img name k) where
   abbrev e : Export

@@ -32,7 +32,7 @@ use Rattle.client.specs.declared.state.Client.{Client}
 use Rattle.joined.specs.Disk.{Disk, Call, Result, results, final, placed}
 use Rattle.joined.specs.Carried.{upAll, downAll}
 use Rattle.joined.specs.Said.{saidUp, saidDown}
-use Rattle.joined.specs.Code.{joint, Ready, Sized, Runs, Holds, begin, export, disk, opening, ClientCarries, ServerCarries}
+use Rattle.joined.specs.Code.{joint, Ready, Unclosed, Sized, Runs, Holds, begin, export, disk, opening, ClientCarries, ServerCarries}
 use Rattle.joined.specs.Host.{Rounds}
 use Rattle.joined.proofs.Driver.{Driver, over, settle, drive}
 use Rattle.joined.proofs.Coded.{stands}
@@ -40,7 +40,7 @@ use Rattle.joined.proofs.Ending.{talk-over}
 use Rattle.joined.proofs.Opening.{front}
 use Rattle.joined.proofs.Collecting.{by-take, grows, weight, next-weight, never-more}
 use Rattle.joined.proofs.Carrying.{unsettled, carried}
-use Rattle.joined.proofs.Conversation.{length-results, last-round, end, told, talk, length-up, length-down, fit, starts, ended, executed}
+use Rattle.joined.proofs.Conversation.{length-results, last-round, end, told, talk, length-up, length-down, fit, ended, executed}
 use Rattle.joined.proofs.Hosted.{rounds, is-ready, all-made}
 
 module _ {t img name : List ℕ} {k : ℕ} (holds : Holds t img name k) (ks : List Call) where
@@ -115,7 +115,7 @@ module _ {t img name : List ℕ} {k : ℕ} (holds : Holds t img name k) (ks : Li
       pub bounded : total b ≤ 2 * (upAll name plain ks + downAll plain ks)
       bounded = rw (length-up holds ks, length-down holds ks) at (talk-bounded (wires .up) (wires .down) (talk holds ks) refl refl (executed holds ks run .0))
 
-      module _ (unclosed : Ready c → ⊥) where
+      module _ (unclosed : Unclosed c) where
         pub moves : (w : Who) × (a : Bytes) × (y : Sys Driver (On State)) × Move drive (serve t) cu cd w a here y
         moves = by (talk-goes-on (wires .up) (wires .down) (talk holds ks) refl refl (executed holds ks run .0))
           where
@@ -139,8 +139,8 @@ module _ {t img name : List ℕ} {k : ℕ} (holds : Holds t img name k) (ks : Li
         let w = last-round r in
         let i = rounds (w .1) (fit holds ks) in
         let j = rounds r (fit holds ks) in
-        let at-last = talk-fair (wires .up) (wires .down) (talk holds ks) refl refl bound (rw (starts holds ks) at (i .0)) in
-        let at-end = talk-fair (wires .up) (wires .down) (talk holds ks) refl refl (omega arith) (rw (starts holds ks) at (j .0)) in
+        let at-last = talk-fair (wires .up) (wires .down) (talk holds ks) refl refl bound (i .0) in
+        let at-end = talk-fair (wires .up) (wires .down) (talk holds ks) refl refl (omega arith) (j .0) in
         let made : ls ≡ [] = all-made all (w .4) (i .1) (rw at-last (stuck refl refl)) (ap the-client at-last) in
         let ready = is-ready ls rs all (j .1) (ap the-client at-end) in
         let o = ended holds ks c m rs s img′ u d ready (rw made at at-end) in

@@ -4,12 +4,13 @@
 --   calls k c        what the contract of the call k says of the client c
 --   collected        the results so far, with that of a call or of the handshake that has just been closed
 --   Ready c          the handshake and the call before are closed
+--   Unclosed c       the handshake or a call is open
 --   clientAt, serverAt, callAt   where a step of the client, a step of the server, a call leads
 --   Sized            each wire has room for a byte or more
---   Move             one step or call, with the bytes that it took and gave
+--   Move             one step or call, the handshake's among them, with the bytes that it took and gave
 --   Runs             moves in any order
 --   Holds            the table is sound for the image, and its record k is the first of that name
---   begin            the start: a fresh client whose handshake was called, a fresh server, empty wires
+--   begin            the start: a fresh client, to which the name is lent, a fresh server, empty wires
 --   disk, opening    the plain disk that the record stands for, and what the handshake answers
 use Prim.Native.Nat.{ℕ, _+_, _-_, _/_, _%_, _≤_, _<_}
 use mathlib.Core.Path.{_≡_}
@@ -78,6 +79,11 @@ pub record Ready (c : Client) : Type 0 where
   pub device : Device
   pub rests : view c ≡ client.Ready device
 
+-- neither blank nor ready
+pub record Unclosed (c : Client) : Type 0 where
+  pub called : view c ≡ client.Blank → ⊥
+  pub not-ready : Ready c → ⊥
+
 -- A step of the client on a first part of its wire in: the bytes given are put on its wire out, and those taken are off the wire in.
 abbrev pub clientAt : List Call → List Result → Server → List ℕ → List ℕ → List ℕ → driven.Stepped → List ℕ → List ℕ → Code
 clientAt ks rs s img u d r m′ room′ = joint (r .state) m′ ks (collected (r .outcome) m′ rs) s img (u ++ take (r .given) room′) (drop (r .taken) d)
@@ -86,9 +92,9 @@ clientAt ks rs s img u d r m′ room′ = joint (r .state) m′ ks (collected (r
 abbrev pub serverAt : Client → List ℕ → List Call → List Result → List ℕ → List ℕ → served.Stepped → List ℕ → List ℕ → Code
 serverAt c m ks rs u d r img′ room′ = joint c m ks rs (r .state) img′ (drop (r .taken) u) (d ++ take (r .given) room′)
 
--- the call k is made
-abbrev pub callAt : List Call → List Result → Server → List ℕ → List ℕ → List ℕ → Call → Called → Code
-callAt ks rs s img u d k r = joint (r .state) (buffer k) ks (collected (r .outcome) (buffer k) rs) s img u d
+-- a call is made, with m lent
+abbrev pub callAt : List Call → List Result → Server → List ℕ → List ℕ → List ℕ → List ℕ → Called → Code
+callAt ks rs s img u d m r = joint (r .state) m ks (collected (r .outcome) m rs) s img u d
 
 -- "two faithful wires with room for a byte or more"
 pub record Sized (cu cd : ℕ) : Type 0 where
@@ -104,9 +110,12 @@ pub data Move (t : List ℕ) (cu cd : ℕ) : Bytes → Code → Code → Type 0 
   server-step : {c : Client} {m : List ℕ} {ks : List Call} {rs : List Result} {s : Server} {img u d : List ℕ}
       (n : ℕ) (room : List ℕ) (r : served.Stepped) (img′ room′ : List ℕ) → length d + length room ≤ cd → Serves s t img (take n u) room r img′ room′
       → Move t cu cd (server-bytes (take (r .taken) u) (take (r .given) room′)) (joint c m ks rs s img u d) (serverAt c m ks rs u d r img′ room′)
+  -- the handshake is called, with the name that is lent
+  shake : {c : Client} {m : List ℕ} {ks : List Call} {rs : List Result} {s : Server} {img u d : List ℕ} (r : Called) → view c ≡ client.Blank → r ≡ shaken (length m) c
+      → Move t cu cd no-bytes (joint c m ks rs s img u d) (callAt ks rs s img u d m r)
   -- the next call is made
   call : {c : Client} {m : List ℕ} {ks : List Call} {rs : List Result} {s : Server} {img u d : List ℕ} (k : Call) (r : Called) → Ready c → r ≡ calls k c
-      → Move t cu cd no-bytes (joint c m (k ∷ ks) rs s img u d) (callAt ks rs s img u d k r)
+      → Move t cu cd no-bytes (joint c m (k ∷ ks) rs s img u d) (callAt ks rs s img u d (buffer k) r)
 
 pub data Runs (t : List ℕ) (cu cd : ℕ) : Bytes → Code → Code → Type 0 where
   stop : {x : Code} → Runs t cu cd no-bytes x x
@@ -119,7 +128,7 @@ pub record Holds (t img name : List ℕ) (k : ℕ) : Type 0 where
   pub found : First (records t) name k
 
 abbrev pub begin : List ℕ → List Call → List ℕ → Code
-begin name ks img = joint (shaken (length name) fresh .state) name ks [] (code (Shaking (Greeting 18))) img [] []
+begin name ks img = joint fresh name ks [] (code (Shaking (Greeting 18))) img [] []
 
 -- record k of the table
 abbrev pub export : List ℕ → ℕ → Record
