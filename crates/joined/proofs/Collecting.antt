@@ -1,33 +1,23 @@
--- The driver's results: they only grow, and each call has one.
---   given-busy, by-take    the driver comes to its end by a byte taken
---   Prefix, grows          the results so far are the first of those at the end
---   weight, never-more     the results and the calls to come are never more than at the start
---   next-weight            and where the client is ready each call is one or the other
-use Prim.Native.Nat.{ℕ, zero, suc, _+_, _≤_}
+-- The driver's results: they only grow.
+--   by-take         the driver comes to its end by a byte taken
+--   Prefix, grows   the results so far are the first of those at the end
+use Prim.Native.Nat.{ℕ, zero, suc}
 use mathlib.Core.Path.{_≡_, refl, sym, ap, _∙_}
 use mathlib.Core.List.{List, [], _∷_, _++_, append-nil, append-assoc}
-use mathlib.Core.Bool.{Bool, true, false}
-use mathlib.Core.Option.{Option, none, some}
-use native.Mathlib.Omega.{arith}
-use lib.Dec.{eqb}
-use lib.ListN.{length, length-append}
-use Rattle.machine.specs.Choice.{pick}
 use Rattle.machine.specs.Machine.{On, on, Turn, gives, takes, rests, Moves, Kept, Keeps}
 use Rattle.machine.specs.Bulk.{less}
 use Rattle.machine.specs.Follows.{through}
 use Rattle.machine.proofs.Moves.{kept}
-use Rattle.client.specs.Calls.{transfer, sought, amount, payload, valueOf}
+use Rattle.client.specs.Calls.{payload}
 use Rattle.client.specs.Session.{Handshake, Magic, Style, Newstyle, Hello, Naming, Terms, Filler, Progress, Asking, Paying, Hearing, Filling}
 use Rattle.client.specs.Session.{State, Blank, Shaking, Ready, Calling, Closed, Over, naming, greeting, paying, asking, turn}
 use Rattle.client.specs.declared.state.Device.{Device}
 use Rattle.client.specs.declared.state.Call as request
-use Rattle.client.specs.declared.state.Call.the-variants.{Read, Write, Trim}
-use Rattle.client.specs.declared.state.Value.the-variants.{Position}
 use Rattle.client.specs.declared.state.Outcome.{Outcome}
 use Rattle.client.specs.declared.state.Outcome.the-variants.{Open, Succeeded, Failed, Ended, Refused}
-use Rattle.joined.specs.Disk.{Call, read, write, seek, flush, trim, Result}
-use Rattle.joined.specs.Code.{seekFrom, buffer, collected, resultOf}
-use Rattle.joined.proofs.Driver.{Driver, busy, over, Begun, out, shut, granted, soughtAt, begin, going, next, settle, drive}
+use Rattle.joined.specs.Disk.{Call, Result}
+use Rattle.joined.specs.Code.{buffer, collected, resultOf}
+use Rattle.joined.proofs.Driver.{Driver, busy, over, Begun, out, shut, begin, going, next, settle, drive}
 
 -- ---- a byte given leads to no end
 abbrev NotOver : Driver → Type 0
@@ -135,68 +125,3 @@ drive-grows rs (over rs′) h = tt
 
 pub grows : (x : On State) (ks : List Call) (rs : List Result) {y : Driver} {is os : List ℕ} → Moves drive (settle x ks rs) is os y → Prefix rs (told y)
 grows x ks rs p = kept {P = λ z. Prefix rs (told z)} (drive-grows rs) p (settle-grows x ks rs)
-
--- ---- one result for each call
-abbrev pub weight : Driver → ℕ
-weight (busy x m ks rs) = length rs + length ks + 1
-weight (over rs) = length rs
-
-collected-one : (o : Outcome) (buf : List ℕ) (rs : List Result) → length (collected o buf rs) ≤ length rs + 1
-collected-one Open buf rs = omega arith
-collected-one (Succeeded v) buf rs = omega (arith, length-append rs (resultOf (Succeeded v) buf ∷ []))
-collected-one (Failed error) buf rs = omega (arith, length-append rs (resultOf (Failed error) buf ∷ []))
-collected-one (Ended n) buf rs = omega arith
-collected-one (Refused why) buf rs = omega (arith, length-append rs (resultOf (Refused why) buf ∷ []))
-
--- a call that closes at once has its result
-abbrev One : Begun → Type 0
-One (out c) = Unit {0}
-One (shut o d) = (buf : List ℕ) (rs : List Result) → length (collected o buf rs) ≡ length rs + 1
-
-granted-one : (d : Device) (f : ℕ → request.Call) (o : Option ℕ) → One (granted d f o)
-granted-one d f none = λ buf rs. length-append rs (resultOf (Refused 49) buf ∷ [])
-granted-one d f (some n) = go (eqb (amount (f n)) 0)
-  where
-    go : (b : Bool) → One (pick b (shut (Succeeded (valueOf (f n))) d) (out (f n)))
-    go true = λ buf rs. length-append rs (resultOf (Succeeded (valueOf (f n))) buf ∷ [])
-    go false = tt
-
-sought-one : (d : Device) (o : Option ℕ) → One (soughtAt d o)
-sought-one d none = λ buf rs. length-append rs (resultOf (Refused 48) buf ∷ [])
-sought-one d (some p) = λ buf rs. length-append rs (resultOf (Succeeded (Position p)) buf ∷ [])
-
-begin-one : (d : Device) (k : Call) → One (begin d k)
-begin-one d (read buf) = granted-one d (λ n. Read n (length buf)) (transfer d (length buf))
-begin-one d (write buf) = granted-one d (λ n. Write n (length buf)) (transfer d (length buf))
-begin-one d (seek f) = sought-one d (sought d (seekFrom f))
-begin-one d flush = tt
-begin-one d (trim k) = granted-one d Trim (transfer d k)
-
-pub next-weight : (ks : List Call) (d : Device) (rs : List Result) → weight (next d ks rs) ≡ length rs + length ks
-next-weight [] d rs = omega arith
-next-weight (k ∷ ks) d rs = go (begin d k) (begin-one d k) (λ d′ rs′. next-weight ks d′ rs′)
-  where
-    go : (b : Begun) → One b → ((d′ : Device) (rs′ : List Result) → weight (next d′ ks rs′) ≡ length rs′ + length ks)
-        → weight (going d b (buffer k) ks rs (λ d′ rs′. next d′ ks rs′)) ≡ length rs + suc (length ks)
-    go (out c) one i = omega arith
-    go (shut o d′) one i = i d′ (collected o (buffer k) rs) ∙ omega (arith, one (buffer k) rs)
-
-settle-weight : (x : On State) (ks : List Call) (rs : List Result) → weight (settle x ks rs) ≤ length rs + length ks + 1
-settle-weight (on Blank m) ks rs = omega arith
-settle-weight (on (Shaking n p) m) ks rs = omega arith
-settle-weight (on (Ready d) m) ks rs = omega (arith, next-weight ks d rs)
-settle-weight (on (Calling d c p) m) ks rs = omega arith
-settle-weight (on (Closed o d) m) ks rs = omega (arith, next-weight ks d (collected o m rs), collected-one o m rs)
-settle-weight (on (Over n) m) ks rs = omega arith
-
-turn-weight : (n : ℕ) (t : Turn (On State)) (ks : List Call) (rs : List Result) → length rs + length ks + 1 ≤ n → Kept (λ x. weight x ≤ n) (through (λ y. settle y ks rs) t)
-turn-weight n (gives b y) ks rs h = omega (arith, settle-weight y ks rs)
-turn-weight n (takes k) ks rs h = λ b. omega (arith, settle-weight (k b) ks rs)
-turn-weight n rests ks rs h = tt
-
-drive-weight : (n : ℕ) → Keeps drive (λ x. weight x ≤ n)
-drive-weight n (busy x m ks rs) h = turn-weight n (turn (on x m)) ks rs h
-drive-weight n (over rs) h = tt
-
-pub never-more : {x y : Driver} {is os : List ℕ} → Moves drive x is os y → weight y ≤ weight x
-never-more {x} p = kept {P = λ z. weight z ≤ weight x} (drive-weight (weight x)) p (omega arith)

@@ -1,15 +1,15 @@
 -- The handshake and all calls as one talk of the two machines, its start and its end.
 --   talk, length-up, length-down   the talk, and how many bytes it has: 01's formula
 --   fit, executed                  a run of the code from the start is an execution from there, in which no step is refused
---   ended                          what the end says of results and image
---   last-round, length-results     the last of some rounds; as many results as calls
+--   finished, ended                where all is closed the talk is over; what that says of results and image
+--   last-round                     the last of some rounds
 use Prim.Native.Nat.{ℕ, suc, _+_}
 use mathlib.Core.Path.{_≡_, refl, sym, ap, _∙_}
 use mathlib.Core.Bool.{true}
 use mathlib.Core.List.{List, [], _∷_, _++_}
 use lib.ListN.{length, take, drop, length-append}
 use Rattle.machine.specs.Machine.{On, on}
-use Rattle.machine.specs.Bytes.{Bytes}
+use Rattle.machine.specs.Bytes.{Bytes, talk-bytes}
 use Rattle.machine.specs.Wires.{sys, the-client, the-server, Exec, Talk}
 use Rattle.machine.proofs.Talking.{talk-then}
 use Rattle.wire.specs.declared.table.Export.{Export}
@@ -23,20 +23,18 @@ use Rattle.client.specs.Calls.{device}
 use Rattle.client.specs.Contract.{fresh}
 use Rattle.client.specs.Reached.{at-first}
 use Rattle.client.specs.declared.state.Client.{Client}
-use Rattle.joined.specs.Disk.{Disk, Call, Result, after, results, final, placed}
+use Rattle.joined.specs.Disk.{Disk, Call, Result, results, final, placed}
 use Rattle.joined.specs.Carried.{upAll, downAll}
 use Rattle.joined.specs.Said.{questions, answers, saidUp, saidDown}
-use Rattle.joined.specs.Code.{Code, joint, Ready, Runs, Holds, begin, export, disk, opening}
+use Rattle.joined.specs.Code.{Code, joint, Ready, Sized, Runs, Holds, begin, export, disk, opening}
 use Rattle.joined.specs.Host.{Hosts, Rounds, no-round, round}
 use Rattle.joined.proofs.Driver.{Driver, busy, over, next, settle, drive}
 use Rattle.joined.proofs.Coded.{Fit, Fits, stands, runs-exec}
 use Rattle.joined.proofs.Calls.{Told, calls-talk}
+use Rattle.joined.proofs.Ending.{talk-over}
+use Rattle.joined.proofs.Collecting.{by-take}
 use Rattle.joined.proofs.Formula.{length-questions, length-answers}
 use Rattle.joined.proofs.Opening.{sound-record, short, front, in-parts, first-agrees, handshake-talk, carried-up, carried-down}
-
-pub length-results : (ks : List Call) (k : Disk) → length (results k ks) ≡ length ks
-length-results [] k = refl
-length-results (c ∷ ks) k = ap suc (length-results ks (after k c))
 
 pub last-round : {t : List ℕ} {cu cd n : ℕ} {x z : Code} → Rounds t cu cd (suc n) x z
     → (y : Code) × Rounds t cu cd n x y × (i : ℕ) × (j : ℕ) × Hosts t cu cd (suc i) (suc j) y z
@@ -92,7 +90,16 @@ module _ {t img name : List ℕ} {k : ℕ} (holds : Holds t img name k) (ks : Li
   pub fit : Fit t fresh name (code (Shaking (Greeting 18))) img
   fit = record { reached = at-first; client-fits = refl; name-fits = λ _. short holds; server-fits = rw (holds .sound) }
 
+  pub executed : {cu cd : ℕ} {b : Bytes} {z : Code} → Runs t cu cd b (begin name ks img) z
+      → Exec drive (serve t) cu cd b (sys start (on (Shaking (Greeting 18)) img) [] []) (stands z) × Fits t z
+  executed p = runs-exec p fit
+
   -- ---- the end
+  pub finished : {cu cd : ℕ} {b : Bytes} {c : Client} {m : List ℕ} {rs : List Result} {s : Server} {img′ u d : List ℕ} → Sized cu cd
+      → Runs t cu cd b (begin name ks img) (joint c m [] rs s img′ u d) → Ready c
+      → (stands (joint c m [] rs s img′ u d) ≡ sys (over all) end [] []) × (b ≡ talk-bytes us ds)
+  finished wires run i = talk-over (wires .up) (wires .down) talk refl refl (by-take all) (executed run .0) (rw (i .rests))
+
   abbrev pub Outcome : List Result → List ℕ → Type 0
   Outcome rs img′ = (rs ≡ all) × (img′ ≡ placed img (export t k .start) (final plain ks .bytes))
 
@@ -102,7 +109,3 @@ module _ {t img name : List ℕ} {k : ℕ} (holds : Holds t img name k) (ks : Li
       let r : over rs ≡ over all = ap (λ (x : client.State). settle (on x m) [] rs) (sym (i .rests)) ∙ ap the-client h in
       let j : img′ ≡ before ++ final plain ks .bytes ++ behind = cc (ap the-server h) in
       (cc r, rw (told .whole) j)
-
-  pub executed : {cu cd : ℕ} {b : Bytes} {z : Code} → Runs t cu cd b (begin name ks img) z
-      → Exec drive (serve t) cu cd b (sys start (on (Shaking (Greeting 18)) img) [] []) (stands z) × Fits t z
-  executed p = runs-exec p fit

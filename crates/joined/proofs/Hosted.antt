@@ -31,6 +31,7 @@ use Rattle.joined.specs.Code.{Code, joint, Ready, calls}
 use Rattle.joined.specs.Host.{Hosts, stop, client-visit, server-visit, shake, call, Rounds, no-round, round}
 use Rattle.joined.proofs.Driver.{Driver, over, settle, drive}
 use Rattle.joined.proofs.Driving.{followed, already, shaken-already}
+use Rattle.joined.proofs.Runs.{left}
 use Rattle.joined.proofs.Coded.{Fit, Fits, stands, stepped, fit-step, fit-serve, fit-shake, fit-call}
 
 -- with no call left the driver rests where the client does
@@ -57,9 +58,6 @@ pub is-ready : {t : List ℕ} {c : Client} {m : List ℕ} (ks : List Call) (rs a
 is-ready {c = c} {m = m} ks rs all f e =
     let w = ready-at (view c) m ks rs all (in-range c (in-ranges (f .reached))) e in
     record { device = w .0; rests = w .1 }
-
-abbrev pub left : Code → List Call
-left (joint c m ks rs s img u d) = ks
 
 stuck-stays : {t : List ℕ} {cu cd : ℕ} {b : Bytes} {x y : Sys Driver (On State)} → Stuck drive (serve t) cu cd x → Exec drive (serve t) cu cd b x y → x ≡ y
 stuck-stays h done = refl

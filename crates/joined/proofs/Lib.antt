@@ -4,6 +4,8 @@ pub mod Called
 pub mod Driver
 pub mod Driving
 pub mod Coded
+pub mod Runs
+pub mod There
 pub mod Parts
 pub mod Sent
 pub mod Agree

@@ -6,10 +6,11 @@
 --   same-outcome    so two runs end alike, on wires of any capacities
 --   never-refused   no step is refused
 --   as-soon-as      at every moment the results so far are the plain disk's first results
---   one-for-each    and each call that is closed has its result
---   moves, carries  while the handshake or a call is open, some move carries a byte
---   fair            a host that visits each of the two again and again closes all
+--   so-far          and as soon as a call is closed results, image and bytes carried are those of the calls closed by then
+--   carries, moves  while the handshake or a call is open, each step of one side carries a byte, and there is such a move
 --   bounded         no run carries more than the formula's bytes, each onto a wire and off it
+--   closes          every run leads on to one that closes all, and so there is one
+--   fair            a host that visits each of the two again and again does
 use Prim.Native.Nat.{ℕ, zero, suc, _+_, _*_, _≤_, _<_}
 use mathlib.Core.Path.{_≡_, refl, sym, ap, _∙_}
 use mathlib.Core.Logic.{_⊎_, inl, inr}
@@ -18,29 +19,32 @@ use native.Mathlib.Omega.{arith}
 use lib.ListN.{length, take, drop, length-append}
 use lib.Seq.{take-append-seam, take-at, drop-at}
 use Rattle.machine.specs.Machine.{On, on}
-use Rattle.machine.specs.Bytes.{Bytes, talk-bytes, total}
-use Rattle.machine.specs.Wires.{Sys, sys, the-client, Who, Move}
+use Rattle.machine.specs.Bytes.{Bytes, total}
+use Rattle.machine.specs.Wires as machine
+use Rattle.machine.specs.Wires.{Sys, sys, the-client, wire-up, wire-down, Who}
 use Rattle.machine.proofs.Talking.{stuck}
+use Rattle.machine.proofs.Sides.{capacity}
 use Rattle.machine.proofs.Outcome.{talk-midway, talk-bounded, talk-goes-on, talk-fair}
 use Rattle.server.specs.Session.{State, turn as serve}
 use Rattle.server.specs.Ranges.{refusal}
 use Rattle.server.specs.declared.state.Server.{Server}
-use Rattle.client.specs.Session as client
 use Rattle.client.specs.View.{view}
 use Rattle.client.specs.Ranges.{refusal as why}
 use Rattle.client.specs.declared.state.Client.{Client}
 use Rattle.joined.specs.Disk.{Disk, Call, Result, results, final, placed}
 use Rattle.joined.specs.Carried.{upAll, downAll}
 use Rattle.joined.specs.Said.{saidUp, saidDown}
-use Rattle.joined.specs.Code.{joint, Ready, Unclosed, Sized, Runs, Holds, begin, export, disk, opening, ClientCarries, ServerCarries}
+use Rattle.joined.specs.Code.{Code, joint, Ready, Unclosed, Sized, Move, Runs, AllClosed, Holds, begin, export, disk, opening, ClientCarries, ServerCarries}
 use Rattle.joined.specs.Host.{Rounds}
-use Rattle.joined.proofs.Driver.{Driver, over, settle, drive}
+use Rattle.joined.specs.SoFar.{SoFar}
+use Rattle.joined.proofs.Runs.{made}
+use Rattle.joined.proofs.There.{move-there, closes-there}
+use Rattle.joined.proofs.Driver.{Driver, over, drive}
 use Rattle.joined.proofs.Coded.{stands}
-use Rattle.joined.proofs.Ending.{talk-over}
 use Rattle.joined.proofs.Opening.{front}
-use Rattle.joined.proofs.Collecting.{by-take, grows, weight, next-weight, never-more}
+use Rattle.joined.proofs.Collecting.{grows}
 use Rattle.joined.proofs.Carrying.{unsettled, carried}
-use Rattle.joined.proofs.Conversation.{length-results, last-round, end, told, talk, length-up, length-down, fit, ended, executed}
+use Rattle.joined.proofs.Conversation.{last-round, end, told, talk, length-up, length-down, fit, finished, ended, executed}
 use Rattle.joined.proofs.Hosted.{rounds, is-ready, all-made}
 
 module _ {t img name : List ℕ} {k : ℕ} (holds : Holds t img name k) (ks : List Call) where
@@ -59,13 +63,10 @@ module _ {t img name : List ℕ} {k : ℕ} (holds : Holds t img name k) (ks : Li
   module _ {cu cd : ℕ} (wires : Sized cu cd) where
     module _ {b : Bytes} {c : Client} {m : List ℕ} {rs : List Result} {s : Server} {img′ u d : List ℕ}
         (run : Runs t cu cd b (begin name ks img) (joint c m [] rs s img′ u d)) (closed : Ready c) where
-      at-end : (stands (joint c m [] rs s img′ u d) ≡ sys (over all) (end holds ks) [] []) × (b ≡ talk-bytes (saidUp name plain ks) (saidDown (export t k) plain ks))
-      at-end = talk-over (wires .up) (wires .down) (talk holds ks) refl refl (by-take all) (executed holds ks run .0) (rw (closed .rests))
-
       -- Every run that closes the handshake and all calls gives the results of the plain disk, and its bytes in the window; all other bytes
       -- of the image are as they were.
       pub plain-disk : (rs ≡ all) × (img′ ≡ image)
-      plain-disk = ended holds ks c m rs s img′ u d closed (at-end .0)
+      plain-disk = ended holds ks c m rs s img′ u d closed (finished holds ks wires run closed .0)
 
       pub outside : (take (export t k .start) img′ ≡ take (export t k .start) img)
           × (drop (export t k .start + export t k .size) img′ ≡ drop (export t k .start + export t k .size) img)
@@ -82,11 +83,11 @@ module _ {t img name : List ℕ} {k : ℕ} (holds : Holds t img name k) (ks : Li
 
       pub carried-bytes : (b .client-out ≡ saidUp name plain ks) × (b .server-in ≡ saidUp name plain ks)
           × (b .server-out ≡ saidDown (export t k) plain ks) × (b .client-in ≡ saidDown (export t k) plain ks)
-      carried-bytes = rw (at-end .1) (refl, refl, refl, refl)
+      carried-bytes = rw (finished holds ks wires run closed .1) (refl, refl, refl, refl)
 
       pub carried-formula : (length (b .client-out) ≡ upAll name plain ks) × (length (b .server-in) ≡ upAll name plain ks)
           × (length (b .server-out) ≡ downAll plain ks) × (length (b .client-in) ≡ downAll plain ks)
-      carried-formula = rw (at-end .1) (length-up holds ks, length-up holds ks, length-down holds ks, length-down holds ks)
+      carried-formula = rw (finished holds ks wires run closed .1) (length-up holds ks, length-up holds ks, length-down holds ks, length-down holds ks)
 
     module _ {b : Bytes} {c : Client} {m : List ℕ} {ls : List Call} {rs : List Result} {s : Server} {img′ u d : List ℕ}
         (run : Runs t cu cd b (begin name ks img) (joint c m ls rs s img′ u d)) where
@@ -97,37 +98,59 @@ module _ {t img name : List ℕ} {k : ℕ} (holds : Holds t img name k) (ks : Li
       pub never-refused : (why (length m) c ≡ 0) × (refusal t (length img′) s ≡ 0)
       never-refused = let f = executed holds ks run .1 in (f .client-fits, f .server-fits)
 
-      -- As soon as a call is closed its result is the plain disk's.
+      -- The results so far are the first of the plain disk's.
       pub as-soon-as : rs ≡ take (length rs) all
       as-soon-as =
           let w = talk-midway (wires .up) (wires .down) (talk holds ks) refl refl (executed holds ks run .0) in
           let g = grows (on (view c) m) ls rs (w .after .of-client) in
           sym (ap (take (length rs)) (g .parts) ∙ take-append-seam rs (g .more))
 
-      -- And it has its result: where none is open, each call is still to come, or its result is there; and so is that of the handshake.
-      pub one-for-each : Ready c → length rs + length ls ≡ suc (length ks)
-      one-for-each i =
-          let w = talk-midway (wires .up) (wires .down) (talk holds ks) refl refl (executed holds ks run .0) in
-          let h : weight (the-client here) ≡ length rs + length ls = ap (λ (x : client.State). weight (settle (on x m) ls rs)) (i .rests) ∙ next-weight ls (i .device) rs in
-          omega (arith, h, never-more (w .before .of-client), never-more (w .after .of-client), length-results ks plain)
-
-      -- No run carries more bytes than the formula has, each onto a wire and off it.
-      pub bounded : total b ≤ 2 * (upAll name plain ks + downAll plain ks)
-      bounded = rw (length-up holds ks, length-down holds ks) at (talk-bounded (wires .up) (wires .down) (talk holds ks) refl refl (executed holds ks run .0))
+      -- As soon as the handshake or a call is closed, results, image and bytes carried are those of the calls closed by then: up to here this is a run of
+      -- these calls alone, and it has closed all of them.
+      pub so-far : Ready c → SoFar t img name k ks b ls rs img′ u d
+      so-far i =
+          let w = made run in
+          let f = finished holds (w .calls) wires (w .run) i in
+          let o = ended holds (w .calls) c m rs s img′ u d i (f .0) in
+          record {
+            closed = w .calls;
+            parts = w .parts;
+            same-results = o .0;
+            same-image = o .1;
+            client-gave = ap (λ (x : Bytes). x .client-out) (f .1);
+            server-took = ap (λ (x : Bytes). x .server-in) (f .1);
+            server-gave = ap (λ (x : Bytes). x .server-out) (f .1);
+            client-took = ap (λ (x : Bytes). x .client-in) (f .1);
+            none-up = ap wire-up (f .0);
+            none-down = ap wire-down (f .0);
+            count-up = ap (λ (x : Bytes). length (x .client-out)) (f .1) ∙ length-up holds (w .calls);
+            count-down = ap (λ (x : Bytes). length (x .server-out)) (f .1) ∙ length-down holds (w .calls);
+          }
 
       module _ (unclosed : Unclosed c) where
-        pub moves : (w : Who) × (a : Bytes) × (y : Sys Driver (On State)) × Move drive (serve t) cu cd w a here y
-        moves = by (talk-goes-on (wires .up) (wires .down) (talk holds ks) refl refl (executed holds ks run .0))
-          where
-            by : (here ≡ sys (over all) (end holds ks) [] []) ⊎ ((w : Who) × (a : Bytes) × (y : Sys Driver (On State)) × Move drive (serve t) cu cd w a here y)
-                → (w : Who) × (a : Bytes) × (y : Sys Driver (On State)) × Move drive (serve t) cu cd w a here y
-            by (inl q) = absurd (let f = sym (unsettled m ls rs (executed holds ks run .1) unclosed) ∙ ap the-client q in let z : _≡_ {A = ℕ} 0 1 = cc f in omega arith)
-            by (inr q) = q
-
         -- Every step of the client, or else every step of the server, on all that is on its wire in and with some room where its wire out has
         -- space, carries a byte.
         pub carries : ClientCarries cu c m u d ⊎ ServerCarries t cd s img′ u d
-        carries = carried m ls rs (executed holds ks run .1) unclosed (moves .3)
+        carries = by (talk-goes-on (wires .up) (wires .down) (talk holds ks) refl refl (executed holds ks run .0))
+          where
+            by : (here ≡ sys (over all) (end holds ks) [] []) ⊎ ((w : Who) × (a : Bytes) × (y : Sys Driver (On State)) × machine.Move drive (serve t) cu cd w a here y)
+                → ClientCarries cu c m u d ⊎ ServerCarries t cd s img′ u d
+            by (inl q) = absurd (let f = sym (unsettled m ls rs (executed holds ks run .1) unclosed) ∙ ap the-client q in let z : _≡_ {A = ℕ} 0 1 = cc f in omega arith)
+            by (inr q) = carried m ls rs (executed holds ks run .1) unclosed (q .3)
+
+        -- And there is such a step: some move carries a byte.
+        pub moves : (a : Bytes) × (z : Code) × Move t cu cd a (joint c m ls rs s img′ u d) z × (0 < total a)
+        moves = let l = capacity (executed holds ks run .0) (omega arith) (omega arith) in move-there c m ls rs s img′ u d (l .0) (l .1) carries
+
+    -- No run carries more bytes than the formula has, each onto a wire and off it.
+    pub bounded : {b : Bytes} {z : Code} → Runs t cu cd b (begin name ks img) z → total b ≤ 2 * (upAll name plain ks + downAll plain ks)
+    bounded run = rw (length-up holds ks, length-down holds ks) at (talk-bounded (wires .up) (wires .down) (talk holds ks) refl refl (executed holds ks run .0))
+
+    -- Every run leads on to one that closes the handshake and all calls: so there is one from the start.
+    pub closes : {b : Bytes} {x : Code} → Runs t cu cd b (begin name ks img) x → (a : Bytes) × (z : Code) × Runs t cu cd a x z × AllClosed z
+    closes {b} {x} run =
+        closes-there (2 * (upAll name plain ks + downAll plain ks)) (λ b x run. executed holds ks run .1) (λ b x run. bounded run)
+        (λ b c m ls rs s img′ u d run o. moves run o) b x run
 
     -- A host that visits each of the two again and again closes all, after one round more than the formula's bytes, each onto a wire and off it.
     pub fair : {n : ℕ} {c : Client} {m : List ℕ} {ls : List Call} {rs : List Result} {s : Server} {img′ u d : List ℕ}

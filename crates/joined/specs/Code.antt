@@ -9,6 +9,7 @@
 --   Sized            each wire has room for a byte or more
 --   Move             one step or call, the handshake's among them, with the bytes that it took and gave
 --   Runs             moves in any order
+--   AllClosed        the handshake and all calls are closed
 --   Holds            the table is sound for the image, and its record k is the first of that name
 --   begin            the start: a fresh client, to which the name is lent, a fresh server, empty wires
 --   disk, opening    the plain disk that the record stands for, and what the handshake answers
@@ -120,6 +121,9 @@ pub data Move (t : List ℕ) (cu cd : ℕ) : Bytes → Code → Code → Type 0 
 pub data Runs (t : List ℕ) (cu cd : ℕ) : Bytes → Code → Code → Type 0 where
   stop : {x : Code} → Runs t cu cd no-bytes x x
   move : {x y z : Code} {a b : Bytes} → Move t cu cd a x y → Runs t cu cd b y z → Runs t cu cd (append a b) x z
+
+abbrev pub AllClosed : Code → Type 0
+AllClosed (joint c m ks rs s img u d) = (ks ≡ []) × Ready c
 
 -- ---- the start
 pub record Holds (t img name : List ℕ) (k : ℕ) : Type 0 where
