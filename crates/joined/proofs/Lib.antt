@@ -6,6 +6,7 @@ pub mod Driving
 pub mod Coded
 pub mod Runs
 pub mod There
+pub mod Closing
 pub mod Parts
 pub mod Sent
 pub mod Agree

@@ -38,7 +38,8 @@ use Rattle.joined.specs.Code.{Code, joint, Ready, Unclosed, Sized, Move,
 use Rattle.joined.specs.Host.{Rounds}
 use Rattle.joined.specs.SoFar.{SoFar}
 use Rattle.joined.proofs.Runs.{made}
-use Rattle.joined.proofs.There.{move-there, closes-there}
+use Rattle.joined.proofs.There.{move-there}
+use Rattle.joined.proofs.Closing.{closes-there}
 use Rattle.joined.proofs.Driver.{Driver, over, drive}
 use Rattle.joined.proofs.Coded.{stands}
 use Rattle.joined.proofs.Opening.{front}
