@@ -10,4 +10,3 @@ pub mod Alone
 pub mod Changes
 pub mod Closing
 pub mod Cut
-pub mod Cases

@@ -1,6 +1,7 @@
 -- 01's cases P1 to P12, as one list of what the definitions give and what 01 says.
---   Case, same     what was found and what is expected; whether they are the same bytes
---   cases          the list
+--   Case, same          what was found and what is expected; whether they are the same bytes
+--   numbered, without   an answer as a list: with a number, or with values alone
+--   cases               the list
 -- The server's and the client's cases run their machines (`run`) over the bytes of the case; 0x and small numbers are as 01 has them.
 use Prim.Native.Nat.{ℕ, _^_}
 use mathlib.Core.Bool.{Bool, true, false}
@@ -36,13 +37,20 @@ abbrev pub same : List Case → Bool
 same [] = true
 same (c ∷ cs) = both (sameBytes (c .found) (c .expected)) (same cs)
 
-abbrev number : Option ℕ → List ℕ
-number none = []
-number (some n) = n ∷ []
+-- An answer as a list: its first element tells a number, such as a refusal's, from the values of an answer without one.
+abbrev numbered : ℕ → List ℕ
+numbered n = 1 ∷ n ∷ []
 
--- ---- the server, with the table of no records: the bytes that it gives, from a place on; then the number that it ends with
+abbrev without : List ℕ → List ℕ
+without values = 0 ∷ values
+
+abbrev answered : Option ℕ → List ℕ → List ℕ
+answered none values = without values
+answered (some n) values = numbered n ++ values
+
+-- ---- the server, with the table of no records: the bytes that it gives, from a place on; and whether it has ended, and with which number
 abbrev ending : On State → List ℕ
-ending (on x m) = number (numberOf (outcomeOf x))
+ending (on x m) = answered (numberOf (outcomeOf x)) []
 
 abbrev runs : State → List ℕ → List ℕ → Ran (On State)
 runs x img input = run (turn (1 ∷ [])) 200 (on x img) input 200
@@ -73,19 +81,19 @@ handle = 0x0102030405060708
 abbrev greeted : Ran (On client.State)
 greeted = run client.turn 200 (on (client.Shaking 1 (client.Magic [])) (0x61 ∷ [])) greeting 200
 
--- its number and values, after a seek by z from the position p
+-- its answer to a seek by z from the position p
 abbrev sought : ℕ → ℤ → List ℕ
 sought p z = answer (calls.seeking (Current z) (code (client.Ready (positioned (device 8 1) p))))
   where
     answer : Called → List ℕ
-    answer r = number (calls.numberOf (r .outcome)) ++ calls.valuesOf (r .outcome)
+    answer r = answered (calls.numberOf (r .outcome)) (calls.valuesOf (r .outcome))
 
 -- the same on the plain disk
 abbrev plainly : ℕ → ℤ → List ℕ
 plainly p z = answer (result (record { bytes = bytes; read-only = false; position = p }) (seek (from-here z)))
   where
     answer : Result → List ℕ
-    answer r = number (r .number) ++ r .values
+    answer r = answered (r .number) (r .values)
 
 -- ---- the list
 abbrev pub cases : List Case
@@ -100,13 +108,14 @@ cases =
     -- P3 flags: plain, and read-only rotational
     ∷ is (wireFlags 0 ∷ wireFlags 5 ∷ []) (5 ∷ 19 ∷ [])
     -- P4 option length
-    ∷ is (ending (asked (IHAVEOPT ++ be 4 3 ++ be 4 100000) .stands)) []
-    ∷ is (ending (asked (IHAVEOPT ++ be 4 3 ++ be 4 100001) .stands)) (3 ∷ [])
+    ∷ is (ending (asked (IHAVEOPT ++ be 4 3 ++ be 4 100000) .stands)) (without [])
+    ∷ is (ending (asked (IHAVEOPT ++ be 4 3 ++ be 4 100001) .stands)) (numbered 3)
     -- P5 READ 4+4, P6 READ 5+4
     ∷ is (requested (request 0 0 handle 4 4) .given) (reply 0 ++ 14 ∷ 15 ∷ 16 ∷ 17 ∷ [])
     ∷ is (requested (request 0 0 handle 5 4) .given) (reply 22)
-    -- P7 WRITE 7+2: the bytes that are left, and the reply; P8 WRITE 8+0
-    ∷ is (requested (request 0 1 handle 7 2 ++ 1 ∷ 2 ∷ []) .rest ++ requested (request 0 1 handle 7 2 ++ 1 ∷ 2 ∷ []) .given) (reply 28)
+    -- P7 WRITE 7+2: the reply, and that no byte is left; P8 WRITE 8+0
+    ∷ is (requested (request 0 1 handle 7 2 ++ 1 ∷ 2 ∷ []) .given) (reply 28)
+    ∷ is (requested (request 0 1 handle 7 2 ++ 1 ∷ 2 ∷ []) .rest) []
     ∷ is (requested (request 0 1 handle 8 0) .given) (reply 0)
     -- P9 offset 2^64-1, length 1
     ∷ is (requested (request 0 0 handle 0xFFFFFFFFFFFFFFFF 1) .given) (reply 22)
@@ -114,10 +123,10 @@ cases =
     ∷ is (greeted .given) (
     0x00 ∷ 0x00 ∷ 0x00 ∷ 0x01 ∷ 0x49 ∷ 0x48 ∷ 0x41 ∷ 0x56 ∷ 0x45 ∷ 0x4F ∷ 0x50 ∷ 0x54 ∷ 0x00 ∷ 0x00 ∷ 0x00 ∷ 0x01 ∷ 0x00 ∷ 0x00 ∷ 0x00 ∷ 0x01 ∷ 0x61 ∷ [])
     -- P11 position 5, seek -5 and -6; P12 seek by -2^63 from 2^63; the client, then the plain disk
-    ∷ is (sought 5 (negsuc 4)) (0 ∷ [])
-    ∷ is (sought 5 (negsuc 5)) (48 ∷ [])
-    ∷ is (sought (2 ^ 63) (negsuc 0x7FFFFFFFFFFFFFFF)) (48 ∷ [])
-    ∷ is (plainly 5 (negsuc 4)) (0 ∷ [])
-    ∷ is (plainly 5 (negsuc 5)) (48 ∷ [])
-    ∷ is (plainly (2 ^ 63) (negsuc 0x7FFFFFFFFFFFFFFF)) (48 ∷ [])
+    ∷ is (sought 5 (negsuc 4)) (without (0 ∷ []))
+    ∷ is (sought 5 (negsuc 5)) (numbered 48)
+    ∷ is (sought (2 ^ 63) (negsuc 0x7FFFFFFFFFFFFFFF)) (numbered 48)
+    ∷ is (plainly 5 (negsuc 4)) (without (0 ∷ []))
+    ∷ is (plainly 5 (negsuc 5)) (numbered 48)
+    ∷ is (plainly (2 ^ 63) (negsuc 0x7FFFFFFFFFFFFFFF)) (numbered 48)
     ∷ []
