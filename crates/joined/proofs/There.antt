@@ -21,6 +21,10 @@ use Rattle.server.specs.declared.state.Server.{Server}
 use Rattle.server.specs.declared.Stepped as served
 use Rattle.server.specs.declared.Outcome.the-variants as server-outcome
 use Rattle.server.proofs.Tidy.{stands-for}
+use Rattle.server.proofs.Bounds as server-bounds
+use Rattle.server.proofs.Kept.{next-good}
+use Rattle.server.proofs.Numbers as served-numbers
+use Rattle.client.proofs.Numbers.{numbered, valued}
 use Rattle.server.proofs.Result.{within as served-within}
 use Rattle.client.specs.Session as client
 use Rattle.client.specs.View.{view, code}
@@ -49,7 +53,7 @@ drives-there c m input room = go (refusal (length m) c) refl
       result = record { state = code (after x); taken = taken; given = given; outcome = outcomeOf x };
       lent = m′;
       room′ = room′;
-      drives = record { refuses = λ no. absurd (no fine); accepts = λ _. record { place = x; steps = s; state = refl; outcome = refl } };
+      drives = record { refuses = λ no. absurd (no fine); accepts = λ _. record { place = x; steps = s; state = refl; outcome = refl; number = numbered x; values = valued x } };
     }
 
     go : (n : ℕ) → refusal (length m) c ≡ n → Driven c m input room
@@ -59,7 +63,7 @@ drives-there c m input room = go (refusal (length m) c) refl
       lent = m;
       room′ = room;
       drives = record {
-        refuses = λ _. record { result = refl; same-lent = refl; same-room = refl };
+        refuses = λ _. record { result = refl; number = refl; values = refl; same-lent = refl; same-room = refl };
         accepts = λ fine. absurd (omega (arith, fine, e));
       };
     }
@@ -77,14 +81,20 @@ serves-there s t img input room = go (refused-server.refusal t (length img) s) r
     accepted : refused-server.refusal t (length img) s ≡ 0 → (y : On server.State) (taken given : ℕ) (room′ : List ℕ)
         → Steps (server.turn t) (on (viewed-server.view s) img) input room taken given y room′ → Served s t img input room
     accepted fine (on x img′) taken given room′ p =
-        let v : viewed-server.view (viewed-server.code x) ≡ x = stands-for x refl in
+        let g = next-good (p .goes .moves) (server-bounds.accepted t (length img) s fine) in
+        let v : viewed-server.view (viewed-server.code x) ≡ x = stands-for x (g .within) refl in
         record {
           result = record { state = viewed-server.code x; taken = taken; given = given; outcome = served-contract.outcomeOf x };
           image = img′;
           room′ = room′;
           serves = record {
             refuses = λ no. absurd (no fine);
-            accepts = λ _. record { steps = rw v p; one-struct = ap viewed-server.code (sym v); outcome = ap served-contract.outcomeOf (sym v) };
+            accepts = λ _. record {
+              steps = rw v p;
+              one-struct = ap viewed-server.code (sym v);
+              outcome = ap served-contract.outcomeOf (sym v);
+              number = rw v (served-numbers.numbered x);
+            };
           };
         }
 
@@ -95,7 +105,7 @@ serves-there s t img input room = go (refused-server.refusal t (length img) s) r
       image = img;
       room′ = room;
       serves = record {
-        refuses = λ _. record { result = refl; same-image = refl; same-room = refl };
+        refuses = λ _. record { result = refl; number = refl; same-image = refl; same-room = refl };
         accepts = λ fine. absurd (omega (arith, fine, e));
       };
     }

@@ -1,7 +1,6 @@
 -- 01's number of each answer.
---   refused-number, accepted-number   of a step
---   closing                           of the end of input: what it answers has the number that it must have
-use Prim.Native.Nat.{ℕ, zero, suc}
+--   numbered   of a step: what its outcome tells is what its place has
+--   closing    of the end of input: what it answers has the number that it must have
 use mathlib.Core.Path.{_≡_, refl, ap, _∙_}
 use mathlib.Core.Bool.{Bool, true, false}
 use mathlib.Core.Option.{some}
@@ -9,19 +8,15 @@ use Rattle.machine.specs.Choice.{pick}
 use Rattle.server.specs.Session.{State, Shaking, Serving, Over}
 use Rattle.server.specs.View.{view}
 use Rattle.server.specs.Ranges.{inRange}
-use Rattle.server.specs.Contract.{numberOf, outcomeOf, stepNumber, owesOutput, cutOff, closedAt, endOfInput, endNumberAt, endNumber, Closes}
+use Rattle.server.specs.Contract.{numberOf, outcomeOf, numberAt, owesOutput, cutOff, closedAt, endOfInput, endNumberAt, endNumber, Closes}
 use Rattle.server.specs.declared.state.Server.{Server}
 use Rattle.server.specs.declared.Closed.{Closed}
 use Rattle.server.specs.declared.Outcome.the-variants.{Refused}
 
-pub refused-number : (why : ℕ) (x : State) → (why ≡ 0 → ⊥) → some why ≡ stepNumber why x
-refused-number zero x h = absurd (h refl)
-refused-number (suc why) x h = refl
-
-pub accepted-number : (x : State) {why : ℕ} → why ≡ 0 → numberOf (outcomeOf x) ≡ stepNumber why x
-accepted-number (Shaking p) e = rw e
-accepted-number (Serving x p) e = rw e
-accepted-number (Over n) e = rw e
+pub numbered : (x : State) → numberOf (outcomeOf x) ≡ numberAt x
+numbered (Shaking p) = refl
+numbered (Serving e p) = refl
+numbered (Over n) = refl
 
 cut-number : (s : Server) (owed : Bool) → numberOf (cutOff s owed .outcome) ≡ some (pick owed 28 12)
 cut-number s true = refl

@@ -1,9 +1,9 @@
 -- What the public functions ensure.
---   numberOf      01's number for each outcome
---   Serves        a step: refused, with nothing changed; or as far as the input and the room go; stepNumber: its number
+--   numberOf      01's number for each outcome; numberAt: and for each place where a step ends
+--   Serves        a step: refused, with nothing changed; or as far as the input and the room go
 --   Closes        the host reports the end of input: endOfInput; endNumber: its number
 --   Heads         the old-style header; headerOf: 01's number for each answer
-use Prim.Native.Nat.{ℕ, zero, suc}
+use Prim.Native.Nat.{ℕ}
 use mathlib.Core.Path.{_≡_}
 use mathlib.Core.Bool.{Bool}
 use mathlib.Core.List.{List, [], _++_}
@@ -37,17 +37,17 @@ outcomeOf (Shaking p) = GoingOn
 outcomeOf (Serving e p) = GoingOn
 outcomeOf (Over n) = Ended n
 
--- the number of a step: why it was refused, where it was, or what the session has ended with
-abbrev pub stepNumber : ℕ → State → Option ℕ
-stepNumber zero (Shaking p) = none
-stepNumber zero (Serving e p) = none
-stepNumber zero (Over n) = some n
-stepNumber (suc why) x = some (suc why)
+-- and 01's number there
+abbrev pub numberAt : State → Option ℕ
+numberAt (Shaking p) = none
+numberAt (Serving e p) = none
+numberAt (Over n) = some n
 
 module _ (self : Server) (t m input room : List ℕ) (r : Stepped) (m′ room′ : List ℕ) where
   -- "All others change nothing at all"
   pub record Refuses : Type 0 where
     pub result : r ≡ record { state = self; taken = 0; given = 0; outcome = Refused (refusal t (length m) self) }
+    pub number : numberOf (r .outcome) ≡ some (refusal t (length m) self)
     pub same-image : m′ ≡ m
     pub same-room : room′ ≡ room
 
@@ -56,11 +56,11 @@ module _ (self : Server) (t m input room : List ℕ) (r : Stepped) (m′ room′
     pub steps : Steps (turn t) (on (view self) m) input room (r .taken) (r .given) (on (view (r .state)) m′) room′
     pub one-struct : r .state ≡ code (view (r .state))
     pub outcome : r .outcome ≡ outcomeOf (view (r .state))
+    pub number : numberOf (r .outcome) ≡ numberAt (view (r .state))
 
   pub record Serves : Type 0 where
     pub refuses : (refusal t (length m) self ≡ 0 → ⊥) → Refuses
     pub accepts : refusal t (length m) self ≡ 0 → Accepts
-    pub number : numberOf (r .outcome) ≡ stepNumber (refusal t (length m) self) (view (r .state))
 
 -- whether output is owed shows without a table or an image
 abbrev pub owesOutput : State → Bool

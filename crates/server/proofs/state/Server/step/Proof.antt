@@ -1,5 +1,6 @@
 -- A refusal returns before anything moves; else the loop goes as far as it can, and its state is tidied.
 use mathlib.Core.Path.{_≡_, refl, sym, ap, _∙_}
+use mathlib.Core.Option.{some}
 use borrow.Author.Needs.{needs}
 use denote.Ref.{now}
 use lib.ListN.{length}
@@ -7,7 +8,7 @@ use Rattle.server.specs.View.{view, code}
 use Rattle.server.proofs.Tidy.{used-fits, stands-for}
 use Rattle.server.specs.Contract.{numberOf}
 use Rattle.server.proofs.Kept.{next-good}
-use Rattle.server.proofs.Numbers.{refused-number, accepted-number}
+use Rattle.server.proofs.Numbers.{numbered}
 use Rattle.server.proofs.Bounds.{accepted}
 use Rattle.server.proofs.state.Server.step.Statement.{statement}
 use Rattle.server.proofs.state.Server.step.Tie as tie
@@ -22,9 +23,8 @@ returns : tie.Need-returns
 returns c =
     let e = c .before .refusal .ensures in
     record {
-      refuses = λ _. record { result = rw e; same-image = refl; same-room = refl };
+      refuses = λ _. record { result = rw e; number = ap some e; same-image = refl; same-room = refl };
       accepts = λ z. absurd (c .if1 .taken (e ∙ z));
-      number = rw e (refused-number _ _ (λ z. c .if1 .taken (e ∙ z)));
     }
 
 advance-requires : tie.Need-advance-requires
@@ -52,8 +52,7 @@ returns-2 c =
     let v = stands-for (view (c .before .before .before .before .before .before .advance .result .state)) (next-good (c .before .before .before .before .before .before .advance .ensures .goes .moves) (accepted (now (c .before .before .before .before .before .before .before .before .before .before .before .before .before .before .before .args .table)) (length (now (c .before .before .before .before .before .before .before .before .before .before .before .before .before .before .before .args .image))) (c .before .before .before .before .before .before .before .before .before .before .before .before .before .before .before .args .self) fine) .within) t in
     record {
       refuses = λ z. absurd (z fine);
-      accepts = λ _. record { steps = rw v (c .before .before .before .before .before .before .advance .ensures); one-struct = t ∙ ap code (sym v); outcome = c .told .ensures };
-      number = ap numberOf (c .told .ensures) ∙ accepted-number _ fine;
+      accepts = λ _. record { steps = rw v (c .before .before .before .before .before .before .advance .ensures); one-struct = t ∙ ap code (sym v); outcome = c .told .ensures; number = ap numberOf (c .told .ensures) ∙ numbered _ };
     }
 
 pub step-spec : {M : Type 1} → statement M
