@@ -30,8 +30,10 @@ use Rattle.client.specs.declared.state.Outcome.{Outcome}
 use Rattle.client.specs.declared.state.Outcome.the-variants.{Open, Succeeded, Failed, Ended, Refused}
 use Rattle.client.specs.declared.state.SeekFrom.{SeekFrom}
 use Rattle.client.specs.declared.state.SeekFrom.the-variants.{Start, Current, End}
+use Rattle.original.specs.Consts.{NBD-CMD-READ, NBD-CMD-WRITE, NBD-CMD-FLUSH, NBD-CMD-TRIM, NBD-CMD-RESIZE}
 use Rattle.original.specs.Client.{Answer, Done, stops, ok, failed, refused, fault, exchange, fill, effectiveLen, readSome, writeSome, trimSome, seekTo, target, Call, read, write, flush, trim, resize, seek, made}
 use Rattle.original.specs.ClientSession.{asked, buffer}
+use Rattle.original.proofs.Leaves.{same-sum, same-clamp, same-request}
 use Rattle.original.proofs.ClientMeets.{clientOf, Meets}
 use Rattle.original.proofs.ClientCalls.{exchange-meets, closed-meets, fill-meets}
 
@@ -40,7 +42,7 @@ pub same-len : (d : Device) (k : ℕ) → effectiveLen (clientOf d) k ≡ transf
 unfolding transfer
 same-len d k =
     let e : min (clamped k) (clamped (d .size - d .position)) ≡ clamped (min k (d .size - d .position)) = omega arith in
-    rw e
+    rw (same-clamp k, same-clamp (d .size - d .position), e)
 
 at-most : (d : Device) (k n : ℕ) → transfer d k ≡ some n → n ≤ k
 unfolding transfer
@@ -93,7 +95,9 @@ module _ (d : Device) (input : List ℕ) where
         call = c;
         answers = rw (e, ne-eqb (suc n) 0 (λ z. omega arith));
         lends = refl;
-        meets = rw append-nil at (exchange-meets d c buf (omega arith) input (fill (clientOf d) (suc n) buf) (λ left. fill-meets d (suc n) (length buf) buf left (at-most d (length buf) (suc n) e)));
+        meets =
+            rw (same-request NBD-CMD-READ (d .position) (suc n))
+            (rw append-nil at (exchange-meets d c buf (omega arith) input (fill (clientOf d) (suc n) buf) (λ left. fill-meets d (suc n) (length buf) buf left (at-most d (length buf) (suc n) e))));
       }
 
   -- a call with no data behind its reply
@@ -113,13 +117,13 @@ module _ (d : Device) (input : List ℕ) where
   made-write buf none e = inl record { outcome = Refused 49; device = d; answers = rw e; prompt = tt; same = refl }
   made-write buf (some zero) e = inl record { outcome = Succeeded (valueOf (Write 0 (length buf))); device = d; answers = rw e; prompt = tt; same = refl }
   made-write buf (some (suc n)) e =
-      goes-out (write buf) (Write (suc n) (length buf)) (writeSome (clientOf d) buf input (some (suc n))) (rw (e, ne-eqb (suc n) 0 (λ z. omega arith))) (at-most d (length buf) (suc n) e) refl refl refl
+      goes-out (write buf) (Write (suc n) (length buf)) (writeSome (clientOf d) buf input (some (suc n))) (rw (e, ne-eqb (suc n) 0 (λ z. omega arith))) (at-most d (length buf) (suc n) e) refl refl (rw (same-request NBD-CMD-WRITE (d .position) (suc n)))
 
   made-trim : (len : ℕ) (o : Option ℕ) → transfer d len ≡ o → Agrees (trim len) (trimSome (clientOf d) input o)
   made-trim len none e = inl record { outcome = Refused 49; device = d; answers = rw e; prompt = tt; same = refl }
   made-trim len (some zero) e = inl record { outcome = Succeeded (valueOf (Trim 0)); device = d; answers = rw e; prompt = tt; same = refl }
   made-trim len (some (suc n)) e =
-      goes-out (trim len) (Trim (suc n)) (trimSome (clientOf d) input (some (suc n))) (rw (e, ne-eqb (suc n) 0 (λ z. omega arith))) (omega arith) refl refl (rw append-nil)
+      goes-out (trim len) (Trim (suc n)) (trimSome (clientOf d) input (some (suc n))) (rw (e, ne-eqb (suc n) 0 (λ z. omega arith))) (omega arith) refl refl (rw (same-request NBD-CMD-TRIM (d .position) (suc n), append-nil))
 
   made-seek : (f : SeekFrom) (o : Option ℕ) → sought d f ≡ o → Agrees (seek f) (seekTo (clientOf d) input o)
   made-seek f none e = inl record { outcome = Refused 48; device = d; answers = rw e; prompt = tt; same = refl }
@@ -127,14 +131,14 @@ module _ (d : Device) (input : List ℕ) where
 
   same-target : (f : SeekFrom) → target (clientOf d) f ≡ sought d f
   same-target (Start p) = refl
-  same-target (Current z) = refl
-  same-target (End z) = refl
+  same-target (Current z) = same-sum (d .position) z
+  same-target (End z) = same-sum (d .size) z
 
   pub made-agrees : (k : Call) → Agrees k (made (clientOf d) k input)
   unfolding made
   made-agrees (read buf) = rw (same-len d (length buf)) (made-read buf (transfer d (length buf)) refl)
   made-agrees (write buf) = rw (same-len d (length buf)) (made-write buf (transfer d (length buf)) refl)
-  made-agrees flush = goes-out flush Flush (made (clientOf d) flush input) refl (omega arith) refl refl (rw append-nil)
+  made-agrees flush = goes-out flush Flush (made (clientOf d) flush input) refl (omega arith) refl refl (rw (same-request NBD-CMD-FLUSH 0 0, append-nil))
   made-agrees (trim len) = rw (same-len d len) (made-trim len (transfer d len) refl)
-  made-agrees (resize size) = goes-out (resize size) (Resize size) (made (clientOf d) (resize size) input) refl (omega arith) refl refl (rw append-nil)
+  made-agrees (resize size) = goes-out (resize size) (Resize size) (made (clientOf d) (resize size) input) refl (omega arith) refl refl (rw (same-request NBD-CMD-RESIZE size 0, append-nil))
   made-agrees (seek f) = rw (same-target f) (made-seek f (sought d f) refl)

@@ -3,12 +3,12 @@
 --   zeroes-meets      the 124 bytes
 --   terms-meets       the size and the flags, in either style
 --   handshake-meets   the whole
-use Prim.Native.Nat.{ℕ, suc, _+_, _-_, _/_, _%_, _^_, _≤_, _<_}
+use Prim.Native.Nat.{ℕ, suc, _+_, _-_, _%_, _^_, _≤_, _<_}
 use mathlib.Core.Path.{_≡_, refl, sym}
 use mathlib.Core.Bool.{Bool, true, false, not}
 use mathlib.Core.List.{List, [], _∷_, _++_}
 use native.Mathlib.Omega.{arith}
-use borrow.Author.Tests.{leb-true, leb-false, eqb-true, eqb-false, eq-eqb, ne-eqb}
+use borrow.Author.Tests.{leb-true, leb-false}
 use lib.Dec.{eqb, leb}
 use lib.ListN.{length, take, drop, length-drop, take-append-drop}
 use lib.Seq.{length-take-le, drop-drop}
@@ -18,7 +18,7 @@ use Rattle.machine.specs.Machine.{On, on, Moves}
 use Rattle.machine.proofs.Bulk.{folds, drops}
 use Rattle.machine.proofs.Zeros.{blank-fold}
 use Rattle.wire.specs.Fields.{number, sameBytes}
-use Rattle.wire.specs.Constants.{NBDMAGIC, IHAVEOPT, OLDSTYLE}
+use Rattle.wire.specs.Table.{bit}
 use Rattle.server.proofs.Kept.{picked}
 use Rattle.client.specs.Calls.{fieldsOf, device}
 use Rattle.client.specs.Session.{State, Magic, Style, Newstyle, Terms, Filler, Shaking, Over, magicked, styled, termed, termsLength, judged, filler, turn}
@@ -28,29 +28,25 @@ use Rattle.client.specs.declared.state.Outcome.the-variants.{Succeeded}
 use Rattle.client.specs.declared.state.Value.the-variants.{Opened}
 use Rattle.client.proofs.Header.{take-part, magic-part, style-part, terms-part}
 use Rattle.client.proofs.Alone.{gathered-run, greeted-run}
+use Rattle.original.specs.Consts.{NBDMAGIC, IHAVEOPT, OLDSTYLE}
+use Rattle.original.specs.Leaves.{zeros}
 use Rattle.original.specs.Connection.{readExact, readNumber}
 use Rattle.original.specs.Client.{Done, stops, ok, fault, field, fillInFlags, zeroes, newstyle, oldstyle, handshake}
+use Rattle.original.proofs.Leaves.{has-bit, same-zeros, same-export-name}
 use Rattle.original.proofs.Reaches.{reaches-then}
 use Rattle.original.proofs.ClientMeets.{Meets, meets-closed, meets-over, meets-cut, part-run}
 
 -- ---- the fields
-same-bit : (x : ℕ) → eqb (x % 2) 0 ≡ not (eqb (x % 2) 1)
-same-bit x = go (eqb (x % 2) 1) refl
+same-field : (flags k : ℕ) → pick (both (bit 0 flags) (bit k flags)) 1 0 ≡ field flags (2 ^ (1 + k) - 2 ^ k)
+same-field flags k = rw (has-bit flags 0, has-bit flags k) (go (bit 0 flags) (bit k flags))
   where
-    go : (b : Bool) → eqb (x % 2) 1 ≡ b → eqb (x % 2) 0 ≡ not b
-    go true e = let z = eqb-true (x % 2) 1 e in ne-eqb (x % 2) 0 (λ w. omega arith)
-    go false e = let z = eqb-false (x % 2) 1 e in eq-eqb (x % 2) 0 (omega arith)
-
-same-field : (flags k : ℕ) → pick (both (eqb (flags / 1 % 2) 1) (eqb (flags / k % 2) 1)) 1 0 ≡ field flags k
-same-field flags k = rw (same-bit (flags / 1), same-bit (flags / k)) (go (eqb (flags / 1 % 2) 1) (eqb (flags / k % 2) 1))
-  where
-    go : (a b : Bool) → pick {A = ℕ} (both a b) 1 0 ≡ pick (not a) 0 (pick (not b) 0 1)
+    go : (a b : Bool) → pick {A = ℕ} (both a b) 1 0 ≡ pick a (pick b 1 0) 0
     go true true = refl
     go true false = refl
     go false b = refl
 
 pub same-fields : (flags : ℕ) → fieldsValues (fieldsOf flags) ≡ fillInFlags flags
-same-fields flags = rw (same-field flags 2, same-field flags 512, same-field flags 16, same-field flags 32, same-field flags 4)
+same-fields flags = rw (same-field flags 1, same-field flags 9, same-field flags 4, same-field flags 5, same-field flags 2)
 
 -- ---- 2 bytes of flags, or in the old style 4, of which the low 16 bits count
 abbrev width : Bool → ℕ
@@ -84,14 +80,15 @@ module _ (name : List ℕ) where
     abbrev step : Bool → ℕ → Bool
     step v b = both v (eqb b 0)
 
-    all-there : 124 ≤ length left → Moves turn filling (take 124 left) [] (on (judged size flags (blank (take 124 left))) name)
+    all-there : 124 ≤ length left → Moves turn filling (take 124 left) [] (on (judged size flags (sameBytes (take 124 left) zeros)) name)
     all-there h =
-        rw (blank-fold true (take 124 left)) at
-        (folds turn (filler n size flags) step {m = name} (λ _ _. refl) (take 124 left) true 124 0 (let l = length-take-le 124 left h in omega arith))
+        let l = length-take-le 124 left h in
+        let same : sameBytes (take 124 left) zeros ≡ blank (take 124 left) = rw l at (same-zeros (take 124 left)) in
+        rw same (rw (blank-fold true (take 124 left)) at (folds turn (filler n size flags) step {m = name} (λ _ _. refl) (take 124 left) true 124 0 (omega arith)))
 
     pub zeroes-meets : Meets filling left (zeroes name size flags left)
     zeroes-meets =
-        picked (Meets filling left) (leb 124 (length left)) (λ h. whole (blank (take 124 left)) (all-there (leb-true 124 (length left) h)))
+        picked (Meets filling left) (leb 124 (length left)) (λ h. whole (sameBytes (take 124 left) zeros) (all-there (leb-true 124 (length left) h)))
         (λ h.
         let k : ℕ = 124 - suc (length left) in
         let h′ = leb-false 124 (length left) h in
@@ -143,7 +140,9 @@ module _ (name : List ℕ) where
   newstyle-meets : (left : List ℕ) → Meets (on (Shaking n (Newstyle 2)) name) left (newstyle name left)
   newstyle-meets left =
       picked (Meets (on (Shaking n (Newstyle 2)) name) left) (leb 2 (length left))
-      (λ h. reaches-then (greeted-run name (take 2 left) (length-take-le 2 left (leb-true 2 (length left) h))) (sym (take-append-drop 2 left)) (terms-meets false (drop 2 left)))
+      (λ h.
+      rw (same-export-name name)
+      (reaches-then (greeted-run name (take 2 left) (length-take-le 2 left (leb-true 2 (length left) h))) (sym (take-append-drop 2 left)) (terms-meets false (drop 2 left))))
       (λ h.
       let h′ = leb-false 2 (length left) h in
       meets-cut (drops turn (machine.newstyle n) (λ _ _. refl) left 2 (suc (2 - suc (length left))) name (omega arith)) refl refl)

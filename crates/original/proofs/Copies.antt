@@ -14,7 +14,7 @@ use lib.ListN.{length, take, drop, set, length-append, length-drop}
 use lib.Seq.{sets, sets-eq, length-sets, length-take-le, take-all, take-add, drop-drop}
 use Rattle.machine.specs.Choice.{pick}
 use Rattle.machine.proofs.Runs.{positive}
-use Rattle.wire.specs.Layouts.{simpleReply}
+use Rattle.original.specs.Leaves.{replyt}
 use Rattle.original.specs.Copy.{Written, all, Copied, copied, buf, part, turns, mycopy, Cursor, fitting, put, writeAll}
 use Rattle.original.specs.Transmission.{toWire}
 
@@ -65,12 +65,12 @@ module _ {D : Type 0} (write : D → List ℕ → Written D) where
 
 module _ (handle offset len : ℕ) (more-than-0 : 0 < len) where
   pub copied-read : (device : List ℕ) → offset + len ≤ length device
-      → mycopy toWire (λ sent. sent ++ simpleReply 0 handle) (drop offset device) [] len
-      ≡ copied (drop len (drop offset device)) (simpleReply 0 handle ++ take len (drop offset device)) (some len)
+      → mycopy toWire (λ sent. sent ++ replyt 0 handle) (drop offset device) [] len
+      ≡ copied (drop len (drop offset device)) (replyt 0 handle ++ take len (drop offset device)) (some len)
   copied-read device fits =
       let z : 0 + len ≡ len = omega arith in
-      rw z at (copies toWire len len 0 (λ sent. sent ++ simpleReply 0 handle) (drop offset device) [] (λ a. simpleReply 0 handle ++ a) (omega arith) more-than-0
-      (omega (arith, length-drop offset device)) (sym (append-nil (simpleReply 0 handle))) (λ a b h. ap all (append-assoc (simpleReply 0 handle) a b)))
+      rw z at (copies toWire len len 0 (λ sent. sent ++ replyt 0 handle) (drop offset device) [] (λ a. replyt 0 handle ++ a) (omega arith) more-than-0
+      (omega (arith, length-drop offset device)) (sym (append-nil (replyt 0 handle))) (λ a b h. ap all (append-assoc (replyt 0 handle) a b)))
 
   -- the cursor once these bytes were written from the offset on
   abbrev at : List ℕ → List ℕ → Cursor

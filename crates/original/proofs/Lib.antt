@@ -1,3 +1,5 @@
+pub mod Leaves
+pub mod Texts
 pub mod Reaches
 pub mod Meets
 pub mod Copies

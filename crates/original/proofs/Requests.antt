@@ -17,7 +17,6 @@ use Rattle.machine.specs.Choice.{both, either}
 use Rattle.machine.specs.Machine.{on, Moves}
 use Rattle.machine.proofs.Runs.{positive}
 use Rattle.wire.specs.Fields.{be, number, Bytes}
-use Rattle.wire.specs.Constants.{NBD-REQUEST-MAGIC, NBD-CMD-READ, NBD-CMD-WRITE}
 use Rattle.wire.specs.Layouts.{request, simpleReply}
 use Rattle.wire.specs.Table.{readOnly}
 use Rattle.wire.specs.declared.table.Export.{Export}
@@ -26,10 +25,13 @@ use Rattle.server.specs.Exchanges.{UnknownType}
 use Rattle.server.proofs.Kept.{picked}
 use Rattle.server.proofs.Window.{window-length}
 use Rattle.server.proofs.Requests.{whole-other-magic, whole-read-nothing, whole-read, whole-write-nothing, whole-write, whole-disc, whole-flush, whole-trim, whole-write-zeroes, whole-unknown-request}
+use Rattle.original.specs.Consts.{NBD-REQUEST-MAGIC, NBD-CMD-READ, NBD-CMD-WRITE}
+use Rattle.original.specs.Leaves.{tableFields, replyt}
 use Rattle.original.specs.Connection.{ended}
 use Rattle.original.specs.Copy.{turns}
 use Rattle.original.specs.Transmission.{Next, again, stop, fails, reads, writes, afterRead, command, oneRequest}
 use Rattle.original.specs.Server.{placed, passes, excluded, excludedAt}
+use Rattle.original.proofs.Leaves.{same-readonly, same-reply}
 use Rattle.original.proofs.Meets.{Meets, meets-over, meets-cut}
 use Rattle.original.proofs.Copies.{copied-read, copied-write}
 use Rattle.original.proofs.Headers.{header-whole, header-other, header-short, behind1, behind2, behind3, behind4, behind5, behind6, layout, fields-fit}
@@ -122,9 +124,9 @@ module _ (t m : List ℕ) (e : Export) where
           go false q =
               let some-len = positive len (eqb-false len 0 q) in
               let fits = not-past e offset len h some-len in
-              let c : reads handle offset len (window e m) left ≡ again (simpleReply 0 handle ++ take len (drop offset (window e m))) (window e m) left =
+              let c : reads handle offset len (window e m) left ≡ again (replyt 0 handle ++ take len (drop offset (window e m))) (window e m) left =
               ap (afterRead len (window e m) left) (copied-read handle offset len some-len (window e m) (rw (window-length e m inside) fits)) ∙ rw (eq-eqb len len refl) in
-              rw c
+              rw (c, same-reply 0 handle)
               (answered NBD-CMD-READ len (whole-read t m e flags handle offset handle-fits offset-fits len len-fits some-len fits inside))
 
       -- ---- WRITE
@@ -147,11 +149,11 @@ module _ (t m : List ℕ) (e : Export) where
       step-write h writable there = go (eqb len 0) refl
         where
           go : (b : Bool) → eqb len 0 ≡ b → Step (asks NBD-CMD-WRITE len) (writes handle offset len (window e m) left)
-          go true q = rw (eqb-true len 0 q) (answered NBD-CMD-WRITE 0 (whole-write-nothing t m e flags handle offset handle-fits offset-fits writable))
+          go true q = rw (eqb-true len 0 q, same-reply 0 handle) (answered NBD-CMD-WRITE 0 (whole-write-nothing t m e flags handle offset handle-fits offset-fits writable))
           go false q =
               let some-len = positive len (eqb-false len 0 q) in
               let fits = not-past e offset len h some-len in
-              rw (copied-write handle offset len some-len (window e m) left (rw (window-length e m inside) fits) there, eq-eqb len len refl) (wrote writable some-len fits there)
+              rw (copied-write handle offset len some-len (window e m) left (rw (window-length e m inside) fits) there, eq-eqb len len refl, same-reply 0 handle) (wrote writable some-len fits there)
 
       -- ---- the match on the type
       pub step-command : (typ : ℕ) → typ < 2 ^ 16 → excluded e typ offset len left ≡ false → Step (asks typ len) (command typ handle offset len (window e m) left)
@@ -162,17 +164,17 @@ module _ (t m : List ℕ) (e : Export) where
           λ q0.
           picked (Step (asks typ len)) (eqb typ 1)
           (λ q1. let r = rw (eqb-true typ 1 q1) at h in
-          let a = neither (passes e offset len) (either (readOnly (e .flags)) (ltb (length left) len)) r in
-          let b = neither (readOnly (e .flags)) (ltb (length left) len) (a .1) in
-          rw (eqb-true typ 1 q1) (step-write (a .0) (b .0) (ltb-false (length left) len (b .1))))
+          let a = neither (passes e offset len) (either (tableFields (e .flags) .readonly) (ltb (length left) len)) r in
+          let b = neither (tableFields (e .flags) .readonly) (ltb (length left) len) (a .1) in
+          rw (eqb-true typ 1 q1) (step-write (a .0) (rw (same-readonly (e .flags)) at (b .0)) (ltb-false (length left) len (b .1))))
           λ q1.
           picked (Step (asks typ len)) (eqb typ 2) (λ q. rw (eqb-true typ 2 q) (over 2 len 0 (whole-disc t m e flags handle offset handle-fits offset-fits len len-fits)))
           λ q2.
-          picked (Step (asks typ len)) (eqb typ 3) (λ q. rw (eqb-true typ 3 q) (answered 3 len (whole-flush t m e flags handle offset handle-fits offset-fits len len-fits)))
+          picked (Step (asks typ len)) (eqb typ 3) (λ q. rw (eqb-true typ 3 q, same-reply 0 handle) (answered 3 len (whole-flush t m e flags handle offset handle-fits offset-fits len len-fits)))
           λ q3.
-          picked (Step (asks typ len)) (eqb typ 4) (λ q. rw (eqb-true typ 4 q) (answered 4 len (whole-trim t m e flags handle offset handle-fits offset-fits len len-fits)))
+          picked (Step (asks typ len)) (eqb typ 4) (λ q. rw (eqb-true typ 4 q, same-reply 38 handle) (answered 4 len (whole-trim t m e flags handle offset handle-fits offset-fits len len-fits)))
           λ q4.
-          picked (Step (asks typ len)) (eqb typ 6) (λ q. rw (eqb-true typ 6 q) (answered 6 len (whole-write-zeroes t m e flags handle offset handle-fits offset-fits len len-fits)))
+          picked (Step (asks typ len)) (eqb typ 6) (λ q. rw (eqb-true typ 6 q, same-reply 38 handle) (answered 6 len (whole-write-zeroes t m e flags handle offset handle-fits offset-fits len len-fits)))
           λ q6.
           over typ len 11 (whole-unknown-request t m e flags handle offset handle-fits offset-fits len len-fits typ fits
           (unknown typ (eqb-false typ 0 q0) (eqb-false typ 1 q1) (eqb-false typ 2 q2) (eqb-false typ 3 q3) (eqb-false typ 4 q4) (eqb-false typ 6 q6)))

@@ -19,10 +19,10 @@ use Rattle.machine.specs.Machine.{on, Moves}
 use Rattle.machine.proofs.Moves.{then}
 use Rattle.machine.proofs.Runs.{positive}
 use Rattle.wire.specs.Fields.{be, number, Bytes}
-use Rattle.wire.specs.Constants.{IHAVEOPT, rustnbd}
-use Rattle.wire.specs.Layouts.{greeting, optionRequest, optionReply, exportReply}
+use Rattle.wire.specs.Constants.{IHAVEOPT}
+use Rattle.wire.specs.Layouts.{optionRequest}
 use Rattle.wire.specs.Utf8.{valid}
-use Rattle.wire.specs.Table.{records, wireFlags}
+use Rattle.wire.specs.Table.{records}
 use Rattle.wire.specs.declared.table.Export.{Export}
 use Rattle.wire.proofs.BigEndian.{be-number, bytes-take, bytes-drop, field-lt}
 use Rattle.server.specs.Session.{State, Greeting, ClientFlags, OptionHead, Shaking, Header, Serving, Over, exportAt, turn}
@@ -31,8 +31,12 @@ use Rattle.server.proofs.Kept.{picked}
 use Rattle.server.proofs.Whole.{greeting-given}
 use Rattle.server.proofs.Options.{whole-flags-1, whole-flags-3, whole-flags-other, option-judged, whole-other-option-magic, whole-too-long}
 use Rattle.server.proofs.Options.{whole-export, whole-export-not-text, whole-export-unknown, whole-abort, whole-list, whole-list-payload, whole-starttls, whole-unsupported, whole-unknown-option}
+use Rattle.original.specs.Consts.{rustnbd, NBD-OPT-MAGIC}
+use Rattle.original.specs.Leaves.{has, exportFlags, tableFields, fromUtf8, reply, exportReply}
 use Rattle.original.specs.Connection.{readNumber, ended}
 use Rattle.original.specs.Handshake.{Shaken, chose, failed, writes, fails, cut, lookup, zeroes, found, option, options, handshake}
+use Rattle.original.proofs.Leaves.{same-flags, same-greeting, same-option-reply, same-export-reply}
+use Rattle.original.proofs.Texts.{same-text}
 use Rattle.original.proofs.Reaches.{reaches-then}
 use Rattle.original.proofs.Meets.{Meets, meets-over, meets-cut}
 use Rattle.original.proofs.Headers.{front}
@@ -98,39 +102,42 @@ module _ (t m : List ℕ) where
       abbrev asks : ℕ → List ℕ
       asks clopt = optionRequest clopt opt ++ left
 
-      step-name : Shakes ready (asks 1) (pick (valid opt) (found flags left (lookup (records t) opt)) (fails 5 left))
-      step-name = picked (Shakes ready (asks 1)) (valid opt) (λ text. go text (lookup (records t) opt) refl) (λ text. over (whole-export-not-text t m (zeroes flags) opt short text) refl)
+      step-name : Shakes ready (asks 1) (pick (fromUtf8 opt) (found flags left (lookup (records t) opt)) (fails 5 left))
+      step-name =
+          rw (same-text opt)
+          (picked (Shakes ready (asks 1)) (valid opt) (λ text. go text (lookup (records t) opt) refl) (λ text. over (whole-export-not-text t m (zeroes flags) opt short text) refl))
         where
           go : valid opt ≡ true → (o : Option Export) → lookup (records t) opt ≡ o → Shakes ready (asks 1) (found flags left o)
           go text none q = over (whole-export-unknown t m (zeroes flags) opt short text (lookup-none (records t) opt q)) refl
           go text (some e) q =
               let w = lookup-some (records t) opt e q in
+              let size : ℕ = exportAt t (w .0) .size in
+              let table-flags : ℕ = exportAt t (w .0) .flags in
               rw (← w .2) (record {
                 taken = optionRequest 1 opt;
                 all-in = refl;
-                moves =
-                    rw (append-nil (exportReply (exportAt t (w .0) .size) (wireFlags (exportAt t (w .0) .flags)) (zeroes flags)))
-                    (whole-export t m (zeroes flags) opt short (w .0) text (w .1));
+                moves = rw (append-nil (exportReply size (exportFlags (tableFields table-flags)) (zeroes flags)), same-flags table-flags, same-export-reply) (whole-export t m (zeroes flags) opt short (w .0) text (w .1));
               })
 
-      step-list : Shakes ready (asks 3) (pick (eqb (length opt) 0) (writes (optionReply 3 2 (be 4 7 ++ rustnbd)) (writes (optionReply 3 1 []) (more left))) (fails 4 left))
+      step-list : Shakes ready (asks 3) (pick (eqb (length opt) 0) (writes (reply 3 2 rustnbd) (writes (reply 3 1 []) (more left))) (fails 4 left))
+      unfolding be
       step-list = picked (Shakes ready (asks 3)) (eqb (length opt) 0) none-there (λ q. over (whole-list-payload t m (zeroes flags) opt short (positive (length opt) (eqb-false (length opt) 0 q))) refl)
         where
-          none-there : eqb (length opt) 0 ≡ true → Shakes ready (asks 3) (writes (optionReply 3 2 (be 4 7 ++ rustnbd)) (writes (optionReply 3 1 []) (more left)))
+          none-there : eqb (length opt) 0 ≡ true → Shakes ready (asks 3) (writes (reply 3 2 rustnbd) (writes (reply 3 1 []) (more left)))
           none-there q =
-              rw (empty opt (eqb-true (length opt) 0 q), writes-both (optionReply 3 2 (be 4 7 ++ rustnbd)) (optionReply 3 1 []) (more left))
+              rw (empty opt (eqb-true (length opt) 0 q), writes-both (reply 3 2 rustnbd) (reply 3 1 []) (more left), same-option-reply 3 2 rustnbd, same-option-reply 3 1 [])
               (shakes-then left (more left) (whole-list t m (zeroes flags)) refl goes-on)
 
       -- an option that is declined
-      step-unsupported : (clopt : ℕ) → Unsupported clopt → Shakes ready (asks clopt) (writes (optionReply clopt 0x80000001 []) (more left))
-      step-unsupported clopt u = shakes-then left (more left) (whole-unsupported t m (zeroes flags) opt short clopt u) refl goes-on
+      step-unsupported : (clopt : ℕ) → Unsupported clopt → Shakes ready (asks clopt) (writes (reply clopt 0x80000001 []) (more left))
+      step-unsupported clopt u = rw (same-option-reply clopt 0x80000001 []) (shakes-then left (more left) (whole-unsupported t m (zeroes flags) opt short clopt u) refl goes-on)
 
       pub step-option : (clopt : ℕ) → clopt < 2 ^ 32 → Shakes ready (asks clopt) (option t flags clopt opt left more)
       unfolding option
       step-option clopt fits =
           picked (Shakes ready (asks clopt)) (eqb clopt 1) (λ q. rw (eqb-true clopt 1 q) step-name)
           λ q1.
-          picked (Shakes ready (asks clopt)) (eqb clopt 2) (λ q. rw (eqb-true clopt 2 q) (rw (append-nil (optionReply 2 1 [])) (meets-over (whole-abort t m (zeroes flags) opt short) refl)))
+          picked (Shakes ready (asks clopt)) (eqb clopt 2) (λ q. rw (eqb-true clopt 2 q) (rw (append-nil (reply 2 1 []), same-option-reply 2 1 []) (meets-over (whole-abort t m (zeroes flags) opt short) refl)))
           λ q2.
           picked (Shakes ready (asks clopt)) (eqb clopt 3) (λ q. rw (eqb-true clopt 3 q) step-list)
           λ q3.
@@ -164,11 +171,11 @@ module _ (t m : List ℕ) where
       same-input : {l : List ℕ} (s : Shaken) → input ≡ l → Shakes ready l s → Shakes ready input s
       same-input s q p = rw q p
 
-      is-magic : 8 ≤ length input → number (take 8 input) ≡ 0x49484156454F5054 → take 8 input ≡ IHAVEOPT
+      is-magic : 8 ≤ length input → number (take 8 input) ≡ NBD-OPT-MAGIC → take 8 input ≡ IHAVEOPT
       unfolding be
       is-magic h e = sym (rw (length-take-le 8 input h, e) at (be-number (take 8 input) (bytes-take 8 input bytes)))
 
-      no-magic : (number (take 8 input) ≡ 0x49484156454F5054 → ⊥) → take 8 input ≡ IHAVEOPT → ⊥
+      no-magic : (number (take 8 input) ≡ NBD-OPT-MAGIC → ⊥) → take 8 input ≡ IHAVEOPT → ⊥
       unfolding number
       no-magic h e = h (ap number e)
 
@@ -216,12 +223,12 @@ module _ (t m : List ℕ) where
         picked (Shakes ready input) (leb 8 (length input))
         (λ a.
         let a′ = leb-true 8 (length input) a in
-        picked (Shakes ready input) (not (eqb (number (take 8 input)) 0x49484156454F5054))
+        picked (Shakes ready input) (not (eqb (number (take 8 input)) NBD-OPT-MAGIC))
         (λ b.
         over (whole-other-option-magic t m (zeroes flags) (take 8 input) (length-take-le 8 input a′)
-        (no-magic input bytes (eqb-false (number (take 8 input)) 0x49484156454F5054 (not-true (eqb (number (take 8 input)) 0x49484156454F5054) b)))) (sym (take-append-drop 8 input)))
+        (no-magic input bytes (eqb-false (number (take 8 input)) NBD-OPT-MAGIC (not-true (eqb (number (take 8 input)) NBD-OPT-MAGIC) b)))) (sym (take-append-drop 8 input)))
         λ b.
-        let e = is-magic input bytes a′ (eqb-true (number (take 8 input)) 0x49484156454F5054 (not-false (eqb (number (take 8 input)) 0x49484156454F5054) b)) in
+        let e = is-magic input bytes a′ (eqb-true (number (take 8 input)) NBD-OPT-MAGIC (not-false (eqb (number (take 8 input)) NBD-OPT-MAGIC) b)) in
         picked (Shakes ready input) (leb 4 (length (drop 8 input)))
         (λ c.
         let c′ = leb-true 4 (length (drop 8 input)) c in
@@ -263,6 +270,7 @@ module _ (t m : List ℕ) where
         rw (← writes-none s) (shakes-then rest s p (front 4 input bytes h) (options-same flags (suc (length rest)) rest (bytes-drop 4 input bytes) (omega arith)))
 
     judged : 4 ≤ length input → Shakes (Shaking (ClientFlags [])) input (pick (both (not (eqb flags 1)) (not (eqb flags 3))) (fails 1 rest) (options t flags (suc (length rest)) rest))
+    unfolding has
     judged h = go (eqb flags 1) refl (eqb flags 3) refl
       where
         go : (a : Bool) → eqb flags 1 ≡ a → (b : Bool) → eqb flags 3 ≡ b
@@ -275,5 +283,5 @@ module _ (t m : List ℕ) where
     unfolding handshake
     handshake-same =
         let s = readNumber 4 input cut λ flags left. pick (both (not (eqb flags 1)) (not (eqb flags 3))) (fails 1 left) (options t flags (suc (length left)) left) in
-        shakes-then input s (greeting-given t m) refl
-        (picked (Shakes (Shaking (ClientFlags [])) input) (leb 4 (length input)) (λ h. judged (leb-true 4 (length input) h)) (λ h. meets-cut (flags-part t m input (leb-false 4 (length input) h)) refl refl))
+        rw same-greeting (shakes-then input s (greeting-given t m) refl
+        (picked (Shakes (Shaking (ClientFlags [])) input) (leb 4 (length input)) (λ h. judged (leb-true 4 (length input) h)) (λ h. meets-cut (flags-part t m input (leb-false 4 (length input) h)) refl refl)))

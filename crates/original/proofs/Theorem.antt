@@ -4,34 +4,42 @@
 --   run-same       the machine as a function, with enough fuel and room
 --   calls-same     the code: any row of steps from a fresh server that finishes; then the end of input
 --   step-same      the code: one step on the whole input, with enough room
+-- And `oldstyle_header`, which stands by itself:
+--   header-same    the code, for every size and flags, where the room has 152 bytes. With less, 000 ends with the error of its writer, and the port refuses with 13
 use Prim.Native.Nat.{ℕ, suc, _+_, _-_, _≤_}
 use mathlib.Core.Path.{_≡_, refl, sym, ap, _∙_}
 use mathlib.Core.Bool.{true, false}
-use mathlib.Core.List.{List}
+use mathlib.Core.List.{List, _++_}
+use mathlib.Core.Option.{none}
 use native.Mathlib.Omega.{arith}
+use borrow.Author.Tests.{le-ltb}
 use lib.ListN.{length, take, drop, length-append}
+use lib.Seq.{take-append-seam, drop-append-seam}
 use Rattle.machine.specs.Machine.{On, on, owes}
 use Rattle.machine.specs.Run.{reached, run}
 use Rattle.machine.specs.Session.{Session, Finished}
 use Rattle.machine.proofs.Runs.{runs}
 use Rattle.machine.proofs.Cutting.{one-piece, finished-stopped}
-use Rattle.wire.specs.Fields.{Bytes}
+use Rattle.wire.specs.Fields.{be, Bytes}
 use Rattle.wire.specs.Table.{fault}
 use Rattle.server.specs.Session.{State, Greeting, ClientFlags, OptionHead, Naming, Passing, Listing, Declining, Aborting, Exporting, Shaking, turn}
 use Rattle.server.specs.Session.{Header, Storing, Dropping, Replying, Sending, Serving, Over}
 use Rattle.server.specs.View.{view, code}
 use Rattle.server.specs.Ranges.{inRange, Good}
-use Rattle.server.specs.Contract.{Serves, owesOutput, closedAt, endOfInput}
+use Rattle.server.specs.Contract.{Serves, owesOutput, closedAt, endOfInput, headerOf, Heads}
 use Rattle.server.specs.History.{Reached, fresh, stepped, Calls, done, call}
 use Rattle.server.specs.declared.state.Server.{Server}
 use Rattle.server.specs.declared.Stepped.{Stepped}
 use Rattle.server.specs.declared.Outcome.the-variants.{Ended}
+use Rattle.server.specs.declared.oldstyle.HeaderAnswer.{HeaderAnswer}
 use Rattle.server.proofs.Kept.{next-good}
 use Rattle.server.proofs.Result.{in-range-for-ever}
 use Rattle.server.proofs.Cutting.{calls-session}
+use Rattle.original.specs.Leaves.{oldstyleHeader}
 use Rattle.original.specs.Connection.{ended}
 use Rattle.original.specs.Handshake.{Shaken, chose, failed, handshake}
 use Rattle.original.specs.Server.{serve, session, DomainAfter, Domain, endOf, Same}
+use Rattle.original.proofs.Leaves.{same-oldstyle}
 use Rattle.original.proofs.Reaches.{reaches-then, one-end, step-ends}
 use Rattle.original.proofs.Meets.{Meets}
 use Rattle.original.proofs.Loop.{bytes-behind, transmission-same}
@@ -115,3 +123,17 @@ module _ (t m input : List ℕ) (sound : fault (length m) t ≡ 0) (bytes : Byte
       let a = p .accepts (rw sound) in
       let f = step-ends meets (a .steps) h in
       (session-same (one-piece (a .steps .goes)) f, closes t m′ (r .state) (in-range-for-ever (stepped fresh p)) f)
+
+-- ---- the old style's header
+length-header : (size flags : ℕ) → length (oldstyleHeader size flags) ≡ 152
+unfolding oldstyleHeader be
+length-header size flags = refl
+
+pub header-same : {room room′ : List ℕ} {size flags : ℕ} {r : HeaderAnswer} → Heads room size flags r room′ → 152 ≤ length room
+    → (headerOf r ≡ none) × (take 152 room′ ≡ oldstyleHeader size flags) × (drop 152 room′ ≡ drop 152 room)
+header-same {room} {room′} {size} {flags} p h =
+    let enough = le-ltb (length room) 152 h in
+    let bytes : List ℕ = oldstyleHeader size flags in
+    let l : length bytes ≡ 152 = length-header size flags in
+    let w : room′ ≡ bytes ++ drop 152 room = rw (same-oldstyle size flags) (rw enough at (p .written)) in
+    (rw enough at (p .number), rw w (rw l at (take-append-seam bytes (drop 152 room))), rw w (rw l at (drop-append-seam bytes (drop 152 room))))

@@ -8,8 +8,7 @@ use mathlib.Core.Bool.{true, false}
 use mathlib.Core.List.{List, [], _∷_, append-nil}
 use native.Mathlib.Omega.{arith}
 use Rattle.wire.specs.Fields.{be, number, sameBytes}
-use Rattle.wire.specs.Constants.{NBD-CMD-FLUSH}
-use Rattle.wire.specs.Layouts.{greeting, optionRequest, exportName, exportReply, request, simpleReply}
+use Rattle.wire.specs.Layouts as wire
 use Rattle.wire.specs.Utf8.{next, lead}
 use Rattle.wire.specs.Table.{recordBytes, front, sized, recordsIn, records, wireFlags}
 use Rattle.wire.specs.Lookup.{started, bits}
@@ -17,6 +16,8 @@ use Rattle.wire.proofs.BigEndian.{same-bytes-refl}
 use Rattle.server.specs.Request.{owed}
 use Rattle.machine.specs.Session.{Finished}
 use Rattle.server.specs.Session.{turn, flagged, named, payload, opted, requested}
+use Rattle.original.specs.Consts.{NBD-CMD-FLUSH}
+use Rattle.original.specs.Leaves.{has, exportFlags, octets, greeting, exportReply, replyt, exportName, sendrequest}
 use Rattle.original.specs.Connection.{sudden-eof}
 use Rattle.original.specs.Client as client
 use Rattle.original.specs.Client.{made}
@@ -44,7 +45,7 @@ pub all-differ :
     × ((tests pastWrite ≡ false ∷ true ∷ false ∷ false ∷ []) × Differs pastWrite)
     × ((tests readOnlyWrite ≡ false ∷ false ∷ true ∷ false ∷ []) × Differs readOnlyWrite)
     × ((tests cutWrite ≡ false ∷ false ∷ false ∷ true ∷ []) × Differs cutWrite)
-unfolding be number sameBytes greeting optionRequest exportReply request simpleReply next lead recordBytes front sized recordsIn records wireFlags started bits owed flagged named payload opted requested turns writeAll option options handshake command oneRequest transmission
+unfolding be number sameBytes wire.greeting wire.exportReply wire.simpleReply next lead recordBytes front sized recordsIn records wireFlags started bits owed flagged named payload opted requested has exportFlags octets greeting exportReply replyt turns writeAll option options handshake command oneRequest transmission
 all-differ = (
   (refl, by-sent pastRead (record { none-left = λ w. refl; none-owed = refl }) refl),
   (refl, by-sent pastWrite (record { none-left = λ w. refl; none-owed = refl }) refl),
@@ -54,17 +55,17 @@ all-differ = (
 
 -- ---- what was measured of the crate over a window of 8 bytes (docs/DIFFERENCES.md), as the definition has it
 pub as-measured : same measured ≡ true
-unfolding be number sameBytes request simpleReply turns writeAll command oneRequest
+unfolding be number sameBytes replyt turns writeAll command oneRequest
 as-measured = refl
 
 -- ---- the client
 pub after-fault : AfterFault
-unfolding be number simpleReply made
+unfolding be number replyt made
 after-fault = record { faults = refl; goes-on = refl; refuses = refl }
 
 pub while-owed : WhileOwed
 unfolding made
-while-owed = record { sends-first = append-nil (request 0 NBD-CMD-FLUSH 0 0 0); faults = refl; owes = refl; ends-unsent = refl }
+while-owed = record { sends-first = append-nil (sendrequest NBD-CMD-FLUSH 0 0); faults = refl; owes = refl; ends-unsent = refl }
 
 pub long-name : LongName
 unfolding be sameBytes greeting client.handshake

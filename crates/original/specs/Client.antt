@@ -5,21 +5,19 @@
 --   getreply           `getreply`, with `check_err`
 --   read, write, flush, trim, resize, seek   the calls
 --   handshake          `handshake`, new style and old; fillInFlags: the five fields
-use Prim.Native.Nat.{ℕ, zero, suc, min, _+_, _-_, _/_, _%_, _^_}
+use Prim.Native.Nat.{ℕ, zero, suc, min, _+_, _-_, _%_, _^_}
 use mathlib.Core.Bool.{not}
 use mathlib.Core.List.{List, [], _∷_, _++_}
 use mathlib.Core.Option.{Option, none, some}
 use lib.Dec.{eqb, ltb}
 use lib.ListN.{length, take, drop}
 use Rattle.machine.specs.Choice.{pick}
-use Rattle.machine.specs.Parts.{blank}
 use Rattle.wire.specs.Fields.{sameBytes}
-use Rattle.wire.specs.Numbers.{clamped, added}
-use Rattle.wire.specs.Constants.{NBDMAGIC, IHAVEOPT, OLDSTYLE, NBD-REPLY-MAGIC, NBD-FLAG-HAS-FLAGS, NBD-FLAG-READ-ONLY, NBD-FLAG-SEND-FLUSH, NBD-FLAG-ROTATIONAL, NBD-FLAG-SEND-TRIM, NBD-FLAG-SEND-RESIZE}
-use Rattle.wire.specs.Constants.{NBD-CMD-READ, NBD-CMD-WRITE, NBD-CMD-FLUSH, NBD-CMD-TRIM, NBD-CMD-RESIZE}
-use Rattle.wire.specs.Layouts.{exportName, request}
 use Rattle.client.specs.declared.state.SeekFrom.{SeekFrom}
 use Rattle.client.specs.declared.state.SeekFrom.the-variants.{Start, Current, End}
+use Rattle.original.specs.Consts.{NBDMAGIC, IHAVEOPT, OLDSTYLE, NBD-REPLY-MAGIC, NBD-FLAG-HAS-FLAGS, NBD-FLAG-READ-ONLY, NBD-FLAG-SEND-FLUSH, NBD-FLAG-ROTATIONAL, NBD-FLAG-SEND-TRIM, NBD-FLAG-SEND-RESIZE}
+use Rattle.original.specs.Consts.{NBD-CMD-READ, NBD-CMD-WRITE, NBD-CMD-FLUSH, NBD-CMD-TRIM, NBD-CMD-RESIZE}
+use Rattle.original.specs.Leaves.{has, checkedAddI64, clampToU32, zeros, exportName, sendrequest}
 use Rattle.original.specs.Connection.{readExact, readNumber}
 
 pub record NbdClient : Type 0 where
@@ -51,7 +49,7 @@ sends bytes d = record { left = d .left; sent = bytes ++ d .sent; buffer = d .bu
 abbrev pub effectiveLen : NbdClient → ℕ → Option ℕ
 effectiveLen c buflen =
     pick (eqb (c .position) (c .size)) (some 0)
-    (pick (ltb (c .size) (c .position)) none (some (min (clamped buflen) (clamped (c .size - c .position)))))
+    (pick (ltb (c .size) (c .position)) none (some (min (clampToU32 buflen) (clampToU32 (c .size - c .position)))))
 
 -- all 16 bytes are read, then judged
 abbrev pub getreply : {R : Type 0} → List ℕ → R → (ℕ → List ℕ → R) → (ℕ → List ℕ → R) → (List ℕ → R) → R
@@ -69,7 +67,7 @@ exchange c bytes buffer input more =
     sends bytes
     (getreply input (stops [] buffer (fault 50)) (λ n left. stops left buffer (fault n)) (λ error left. stops left buffer (failed error c)) more)
 
--- ---- the calls; the flags and the handle of a request are 0
+-- ---- the calls
 -- a read's data: `read_exact` into the buffer
 abbrev pub fill : NbdClient → ℕ → List ℕ → List ℕ → Done
 fill c n buf left =
@@ -79,19 +77,19 @@ fill c n buf left =
 abbrev pub readSome : NbdClient → List ℕ → List ℕ → Option ℕ → Done
 readSome c buf input none = stops input buf (refused 49 c)
 readSome c buf input (some zero) = stops input buf (ok (0 ∷ []) c)
-readSome c buf input (some (suc n)) = exchange c (request 0 NBD-CMD-READ 0 (c .position) (suc n)) buf input (fill c (suc n) buf)
+readSome c buf input (some (suc n)) = exchange c (sendrequest NBD-CMD-READ (c .position) (suc n)) buf input (fill c (suc n) buf)
 
 abbrev pub writeSome : NbdClient → List ℕ → List ℕ → Option ℕ → Done
 writeSome c buf input none = stops input buf (refused 49 c)
 writeSome c buf input (some zero) = stops input buf (ok (0 ∷ []) c)
 writeSome c buf input (some (suc n)) =
-    exchange c (request 0 NBD-CMD-WRITE 0 (c .position) (suc n) ++ take (suc n) buf) buf input
+    exchange c (sendrequest NBD-CMD-WRITE (c .position) (suc n) ++ take (suc n) buf) buf input
     (λ left. stops left buf (ok (suc n ∷ []) (at c (c .position + suc n))))
 
 abbrev pub trimSome : NbdClient → List ℕ → Option ℕ → Done
 trimSome c input none = stops input [] (refused 49 c)
 trimSome c input (some zero) = stops input [] (ok [] c)
-trimSome c input (some (suc n)) = exchange c (request 0 NBD-CMD-TRIM 0 (c .position) (suc n)) [] input (λ left. stops left [] (ok [] c))
+trimSome c input (some (suc n)) = exchange c (sendrequest NBD-CMD-TRIM (c .position) (suc n)) [] input (λ left. stops left [] (ok [] c))
 
 abbrev pub seekTo : NbdClient → List ℕ → Option ℕ → Done
 seekTo c input none = stops input [] (refused 48 c)
@@ -99,8 +97,8 @@ seekTo c input (some p) = stops input [] (ok (p ∷ []) (at c p))
 
 abbrev pub target : NbdClient → SeekFrom → Option ℕ
 target c (Start x) = some x
-target c (Current x) = added (c .position) x
-target c (End x) = added (c .size) x
+target c (Current x) = checkedAddI64 (c .position) x
+target c (End x) = checkedAddI64 (c .size) x
 
 pub data Call : Type 0 where
   read : List ℕ → Call  -- the buffer
@@ -113,15 +111,15 @@ pub data Call : Type 0 where
 unfoldable pub made : NbdClient → Call → List ℕ → Done
 made c (read buf) input = readSome c buf input (effectiveLen c (length buf))
 made c (write buf) input = writeSome c buf input (effectiveLen c (length buf))
-made c flush input = exchange c (request 0 NBD-CMD-FLUSH 0 0 0) [] input (λ left. stops left [] (ok [] c))
+made c flush input = exchange c (sendrequest NBD-CMD-FLUSH 0 0) [] input (λ left. stops left [] (ok [] c))
 made c (trim len) input = trimSome c input (effectiveLen c len)
 made c (resize size) input =
-    exchange c (request 0 NBD-CMD-RESIZE 0 size 0) [] input (λ left. stops left [] (ok [] (record { size = size; position = c .position })))
+    exchange c (sendrequest NBD-CMD-RESIZE size 0) [] input (λ left. stops left [] (ok [] (record { size = size; position = c .position })))
 made c (seek f) input = seekTo c input (target c f)
 
 -- ---- the handshake
 abbrev pub field : ℕ → ℕ → ℕ
-field flags k = pick (eqb (flags / NBD-FLAG-HAS-FLAGS % 2) 0) 0 (pick (eqb (flags / k % 2) 0) 0 1)
+field flags k = pick (has flags NBD-FLAG-HAS-FLAGS) (pick (has flags k) 1 0) 0
 
 abbrev pub fillInFlags : ℕ → List ℕ
 fillInFlags flags =
@@ -131,7 +129,7 @@ fillInFlags flags =
 abbrev pub zeroes : List ℕ → ℕ → ℕ → List ℕ → Done
 zeroes name size flags left =
     readExact 124 left (stops [] name (fault 50)) λ z left.
-    pick (not (blank z)) (stops left name (fault 43))
+    pick (not (sameBytes z zeros)) (stops left name (fault 43))
     (stops left name (ok (size ∷ fillInFlags flags) (record { size = size; position = 0 })))
 
 abbrev pub newstyle : List ℕ → List ℕ → Done

@@ -1,3 +1,5 @@
+pub mod Consts
+pub mod Leaves
 pub mod Connection
 pub mod Copy
 pub mod Handshake

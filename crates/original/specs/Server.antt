@@ -1,5 +1,5 @@
 -- A server's session as document 000 has it, and 01's oracle domain.
---   placed         the image with the window's bytes in their place
+--   window, placed   the device of an export: its part of the image; the image with that part's bytes in their place
 --   session t m    the handshake, then the transmission on the window of the export that was chosen
 --   readPast, writePast, writeReadOnly, writeCut   01's exclusions, of one request
 --   Domain t m     no request that the session comes to is excluded
@@ -11,13 +11,16 @@ use mathlib.Core.List.{List, _++_}
 use lib.Dec.{eqb, ltb}
 use lib.ListN.{length, take, drop}
 use Rattle.machine.specs.Choice.{both, either}
-use Rattle.wire.specs.Constants.{NBD-CMD-READ, NBD-CMD-WRITE}
-use Rattle.wire.specs.Table.{readOnly}
 use Rattle.wire.specs.declared.table.Export.{Export}
-use Rattle.server.specs.Session.{State, Shaking, Serving, Over, window}
+use Rattle.server.specs.Session.{State, Shaking, Serving, Over}
+use Rattle.original.specs.Consts.{NBD-CMD-READ, NBD-CMD-WRITE}
+use Rattle.original.specs.Leaves.{tableFields}
 use Rattle.original.specs.Connection.{ended, Result, sends}
 use Rattle.original.specs.Handshake.{Shaken, chose, failed, handshake}
 use Rattle.original.specs.Transmission.{Next, again, stop, header, oneRequest, transmission}
+
+abbrev pub window : Export → List ℕ → List ℕ
+window e m = take (e .size) (drop (e .start) m)
 
 abbrev pub placed : List ℕ → Export → List ℕ → List ℕ
 placed m e bytes = take (e .start) m ++ bytes ++ drop (e .start + e .size) m
@@ -45,7 +48,7 @@ abbrev pub writePast : Export → ℕ → ℕ → ℕ → Bool
 writePast e typ offset len = both (eqb typ NBD-CMD-WRITE) (passes e offset len)
 
 abbrev pub writeReadOnly : Export → ℕ → Bool
-writeReadOnly e typ = both (eqb typ NBD-CMD-WRITE) (readOnly (e .flags))
+writeReadOnly e typ = both (eqb typ NBD-CMD-WRITE) (tableFields (e .flags) .readonly)
 
 abbrev pub writeCut : ℕ → ℕ → List ℕ → Bool
 writeCut typ len left = both (eqb typ NBD-CMD-WRITE) (ltb (length left) len)

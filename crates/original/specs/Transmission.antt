@@ -11,8 +11,8 @@ use mathlib.Core.Option.{Option, none, some}
 use lib.Dec.{eqb}
 use lib.ListN.{drop}
 use Rattle.machine.specs.Choice.{pick}
-use Rattle.wire.specs.Constants.{NBD-REQUEST-MAGIC, NBD-CMD-READ, NBD-CMD-WRITE, NBD-CMD-DISC, NBD-CMD-FLUSH, NBD-CMD-TRIM, NBD-CMD-WRITE-ZEROES}
-use Rattle.wire.specs.Layouts.{simpleReply}
+use Rattle.original.specs.Consts.{NBD-REQUEST-MAGIC, NBD-CMD-READ, NBD-CMD-WRITE, NBD-CMD-DISC, NBD-CMD-FLUSH, NBD-CMD-TRIM, NBD-CMD-WRITE-ZEROES}
+use Rattle.original.specs.Leaves.{replyt}
 use Rattle.original.specs.Connection.{readNumber, Outcome, ended, sudden-eof, Result, sends}
 use Rattle.original.specs.Copy.{Written, all, Copied, mycopy, Cursor, writeAll}
 
@@ -38,12 +38,12 @@ afterRead length device left c = readDone length device left (c .to) (c .count)
 
 abbrev pub reads : ℕ → ℕ → ℕ → List ℕ → List ℕ → Next
 reads handle offset length device left =
-    afterRead length device left (mycopy toWire (λ sent. sent ++ simpleReply 0 handle) (drop offset device) [] length)
+    afterRead length device left (mycopy toWire (λ sent. sent ++ replyt 0 handle) (drop offset device) [] length)
 
 -- ---- WRITE: the reader is the connection; an error of the device is 5, for it has no number of the system's
 abbrev pub writeDone : ℕ → ℕ → List ℕ → List ℕ → Option ℕ → Next
-writeDone handle length device left none = again (simpleReply 5 handle) device left
-writeDone handle length device left (some n) = pick (eqb n length) (again (simpleReply 0 handle) device left) (stop [] device left sudden-eof)
+writeDone handle length device left none = again (replyt 5 handle) device left
+writeDone handle length device left (some n) = pick (eqb n length) (again (replyt 0 handle) device left) (stop [] device left sudden-eof)
 
 abbrev pub afterWrite : ℕ → ℕ → Copied Cursor → Next
 afterWrite handle length c = writeDone handle length (c .to .bytes) (c .from) (c .count)
@@ -58,9 +58,9 @@ command typ handle offset length device left =
     pick (eqb typ NBD-CMD-READ) (reads handle offset length device left)
     (pick (eqb typ NBD-CMD-WRITE) (writes handle offset length device left)
     (pick (eqb typ NBD-CMD-DISC) (fails 0 device left)
-    (pick (eqb typ NBD-CMD-FLUSH) (again (simpleReply 0 handle) device left)
-    (pick (eqb typ NBD-CMD-TRIM) (again (simpleReply 38 handle) device left)
-    (pick (eqb typ NBD-CMD-WRITE-ZEROES) (again (simpleReply 38 handle) device left)
+    (pick (eqb typ NBD-CMD-FLUSH) (again (replyt 0 handle) device left)
+    (pick (eqb typ NBD-CMD-TRIM) (again (replyt 38 handle) device left)
+    (pick (eqb typ NBD-CMD-WRITE-ZEROES) (again (replyt 38 handle) device left)
     (fails 11 device left))))))
 
 -- ---- a request's fields, one after the other; `then` is what follows

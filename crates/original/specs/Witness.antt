@@ -1,6 +1,6 @@
 -- A small session for each of 01's exclusions. At the server: a table with one export of 8 bytes and the empty name, and one request.
 --   Witness     the export's flags, the request's type, offset and length, and the bytes behind its header
---   input       what the client sends: its flags, EXPORT_NAME and the request
+--   request     a request's bytes, with handle 7; input: what the client sends: its flags, EXPORT_NAME and the request
 --   tests       which of the four exclusions the request falls under, in 01's order
 --   Differs     the machine finishes over it, and not as document 000 does
 --   pastRead, pastWrite, readOnlyWrite, cutWrite   the witnesses
@@ -15,9 +15,7 @@ use Rattle.machine.specs.Choice.{both}
 use Rattle.machine.specs.Machine.{On, on, owes}
 use Rattle.machine.specs.Run.{Ran, run}
 use Rattle.machine.specs.Session.{Finished}
-use Rattle.wire.specs.Fields.{be, sameBytes}
-use Rattle.wire.specs.Constants.{NBD-OPT-EXPORT-NAME, NBD-CMD-READ, NBD-CMD-WRITE, NBD-CMD-FLUSH}
-use Rattle.wire.specs.Layouts.{greeting, optionRequest, exportName, request, simpleReply}
+use Rattle.wire.specs.Fields.{sameBytes}
 use Rattle.wire.specs.Table.{tableBytes}
 use Rattle.wire.specs.declared.table.Export.{Export}
 use Rattle.server.specs.Session.{State, Greeting, Shaking, turn}
@@ -30,6 +28,8 @@ use Rattle.client.specs.Reached.{to-shake, answered}
 use Rattle.client.specs.declared.state.Device.{Device}
 use Rattle.client.specs.declared.state.Call.the-variants.{Flush}
 use Rattle.client.specs.declared.state.Outcome.the-variants.{Ended, Refused}
+use Rattle.original.specs.Consts.{NBD-OPT-MAGIC, NBD-REQUEST-MAGIC, NBD-OPT-EXPORT-NAME, NBD-CMD-READ, NBD-CMD-WRITE, NBD-CMD-FLUSH}
+use Rattle.original.specs.Leaves.{u16, u32, u64, greeting, replyt, exportName, sendrequest}
 use Rattle.original.specs.Client.{NbdClient, ok, fault, flush, made, handshake}
 use Rattle.original.specs.ClientSession.{asked}
 use Rattle.original.specs.Connection.{ended, sudden-eof}
@@ -52,8 +52,11 @@ export w = record { start = 0; size = 8; flags = w .flags }
 abbrev pub table : Witness → List ℕ
 table w = tableBytes (record { start = 0; size = 8; flags = w .flags; name = [] } ∷ [])
 
+abbrev pub request : ℕ → ℕ → ℕ → List ℕ
+request type offset len = u32 NBD-REQUEST-MAGIC ++ u16 0 ++ u16 type ++ u64 7 ++ u64 offset ++ u32 len
+
 abbrev pub input : Witness → List ℕ
-input w = be 4 3 ++ optionRequest NBD-OPT-EXPORT-NAME [] ++ request 0 (w .type) 7 (w .offset) (w .len) ++ w .behind
+input w = u32 3 ++ u64 NBD-OPT-MAGIC ++ u32 NBD-OPT-EXPORT-NAME ++ u32 0 ++ request (w .type) (w .offset) (w .len) ++ w .behind
 
 abbrev pub tests : Witness → List Bool
 tests w =
@@ -106,19 +109,19 @@ told (stop sent device left (ended n)) = n ∷ length sent ∷ sent ++ device ++
 
 abbrev pub asks : ℕ → ℕ → ℕ → List ℕ → Next → Case
 asks type offset len behind expected =
-    record { found = told (oneRequest image (request 0 type 7 offset len ++ behind)); expected = told expected }
+    record { found = told (oneRequest image (request type offset len ++ behind)); expected = told expected }
 
 abbrev pub measured : List Case
 measured =
     -- READ 5+4: reply 0 and 3 bytes, then "sudden EOF"; READ 8+4 and 2^64-1 + 1: no reply, "sudden EOF"; READ 9+0: silent, goes on
-    asks NBD-CMD-READ 5 4 [] (stop (simpleReply 0 7 ++ 15 ∷ 16 ∷ 17 ∷ []) image [] sudden-eof)
+    asks NBD-CMD-READ 5 4 [] (stop (replyt 0 7 ++ 15 ∷ 16 ∷ 17 ∷ []) image [] sudden-eof)
     ∷ asks NBD-CMD-READ 8 4 [] (stop [] image [] sudden-eof)
     ∷ asks NBD-CMD-READ 0xFFFFFFFFFFFFFFFF 1 [] (stop [] image [] sudden-eof)
     ∷ asks NBD-CMD-READ 9 0 [] (again [] image [])
     -- WRITE 7+2: error 5, and the byte that fits is written; 0+70000: 65,536 bytes are taken, and the rest is left; length 0, at any offset: reply 0; cut in its payload: "sudden EOF"
-    ∷ asks NBD-CMD-WRITE 7 2 (1 ∷ 2 ∷ []) (again (simpleReply 5 7) (10 ∷ 11 ∷ 12 ∷ 13 ∷ 14 ∷ 15 ∷ 16 ∷ 1 ∷ []) [])
-    ∷ asks NBD-CMD-WRITE 0 70000 (replicate 70000 1) (again (simpleReply 5 7) (replicate 8 1) (replicate 4464 1))
-    ∷ asks NBD-CMD-WRITE 9 0 (1 ∷ []) (again (simpleReply 0 7) image (1 ∷ []))
+    ∷ asks NBD-CMD-WRITE 7 2 (1 ∷ 2 ∷ []) (again (replyt 5 7) (10 ∷ 11 ∷ 12 ∷ 13 ∷ 14 ∷ 15 ∷ 16 ∷ 1 ∷ []) [])
+    ∷ asks NBD-CMD-WRITE 0 70000 (replicate 70000 1) (again (replyt 5 7) (replicate 8 1) (replicate 4464 1))
+    ∷ asks NBD-CMD-WRITE 9 0 (1 ∷ []) (again (replyt 0 7) image (1 ∷ []))
     ∷ asks NBD-CMD-WRITE 0 3 (1 ∷ 2 ∷ []) (stop [] (1 ∷ 2 ∷ 12 ∷ 13 ∷ 14 ∷ 15 ∷ 16 ∷ 17 ∷ []) [] sudden-eof)
     ∷ []
 
@@ -130,10 +133,10 @@ abbrev pub device : Device
 device = record { size = 8; position = 0; fields = fieldsOf 1 }
 
 abbrev pub wrong : List ℕ
-wrong = be 4 0 ++ be 4 0 ++ be 8 0
+wrong = u32 0 ++ u32 0 ++ u64 0
 
 abbrev pub right : List ℕ
-right = simpleReply 0 0
+right = replyt 0 0
 
 -- after a fault: document 000's client makes the next call all the same
 pub record AfterFault : Type 0 where
@@ -143,7 +146,7 @@ pub record AfterFault : Type 0 where
 
 -- the end of input while output is owed: document 000 sends its request before it can meet the end
 pub record WhileOwed : Type 0 where
-  pub sends-first : made plain flush [] .sent ≡ request 0 NBD-CMD-FLUSH 0 0 0
+  pub sends-first : made plain flush [] .sent ≡ sendrequest NBD-CMD-FLUSH 0 0
   pub faults : made plain flush [] .answer ≡ fault 50
   pub owes : owes (client.turn (on (client.Calling device Flush (client.Asking 28)) [])) ≡ true
   pub ends-unsent : endOfInput (code (client.Calling device Flush (client.Asking 28))) .outcome ≡ Ended 50

@@ -1,0 +1,124 @@
+-- Document 000's constants as literals read from lib.rs: `mod consts` under its own names, and the magics, which its functions write out, under the protocol
+-- text's. Nothing of the port stands here, so that a constant that is changed in the port is refused (`same-constants` of proofs/Leaves.antt).
+-- `1 << k` is 2 ^ k, and `|` is bitOr. What no function of 000 uses is left out.
+use Prim.Native.Nat.{ℕ, _^_}
+use mathlib.Core.List.{List, [], _∷_}
+use lib.Bits.{bitOr}
+
+-- ---- the fixed strings: b"NBDMAGIC", b"IHAVEOPT", b"\x00\x00\x42\x02\x81\x86\x12\x53" and b"\x00\x00\x00\x07rustnbd"
+abbrev pub NBDMAGIC : List ℕ
+NBDMAGIC = 0x4E ∷ 0x42 ∷ 0x44 ∷ 0x4D ∷ 0x41 ∷ 0x47 ∷ 0x49 ∷ 0x43 ∷ []
+
+abbrev pub IHAVEOPT : List ℕ
+IHAVEOPT = 0x49 ∷ 0x48 ∷ 0x41 ∷ 0x56 ∷ 0x45 ∷ 0x4F ∷ 0x50 ∷ 0x54 ∷ []
+
+abbrev pub OLDSTYLE : List ℕ
+OLDSTYLE = 0x00 ∷ 0x00 ∷ 0x42 ∷ 0x02 ∷ 0x81 ∷ 0x86 ∷ 0x12 ∷ 0x53 ∷ []
+
+abbrev pub rustnbd : List ℕ
+rustnbd = 0x00 ∷ 0x00 ∷ 0x00 ∷ 0x07 ∷ 0x72 ∷ 0x75 ∷ 0x73 ∷ 0x74 ∷ 0x6E ∷ 0x62 ∷ 0x64 ∷ []
+
+-- ---- magic numbers
+abbrev pub NBD-OPT-MAGIC : ℕ
+NBD-OPT-MAGIC = 0x49484156454F5054
+
+abbrev pub NBD-OPT-REPLY-MAGIC : ℕ
+NBD-OPT-REPLY-MAGIC = 0x3E889045565A9
+
+abbrev pub NBD-REQUEST-MAGIC : ℕ
+NBD-REQUEST-MAGIC = 0x25609513
+
+abbrev pub NBD-REPLY-MAGIC : ℕ
+NBD-REPLY-MAGIC = 0x67446698
+
+-- ---- options
+abbrev pub NBD-OPT-EXPORT-NAME : ℕ
+NBD-OPT-EXPORT-NAME = 1
+
+abbrev pub NBD-OPT-ABORT : ℕ
+NBD-OPT-ABORT = 2
+
+abbrev pub NBD-OPT-LIST : ℕ
+NBD-OPT-LIST = 3
+
+abbrev pub NBD-OPT-STARTTLS : ℕ
+NBD-OPT-STARTTLS = 5
+
+abbrev pub NBD-OPT-INFO : ℕ
+NBD-OPT-INFO = 6
+
+abbrev pub NBD-OPT-GO : ℕ
+NBD-OPT-GO = 7
+
+abbrev pub NBD-OPT-STRUCTURED-REPLY : ℕ
+NBD-OPT-STRUCTURED-REPLY = 8
+
+abbrev pub NBD-OPT-EXTENDED-HEADERS : ℕ
+NBD-OPT-EXTENDED-HEADERS = 11
+
+-- ---- option replies
+abbrev pub NBD-REP-ACK : ℕ
+NBD-REP-ACK = 1
+
+abbrev pub NBD-REP-SERVER : ℕ
+NBD-REP-SERVER = 2
+
+abbrev pub NBD-REP-FLAG-ERROR : ℕ
+NBD-REP-FLAG-ERROR = 2 ^ 31
+
+abbrev pub NBD-REP-ERR-UNSUP : ℕ
+NBD-REP-ERR-UNSUP = bitOr 1 NBD-REP-FLAG-ERROR
+
+-- ---- handshake flags
+abbrev pub NBD-FLAG-FIXED-NEWSTYLE : ℕ
+NBD-FLAG-FIXED-NEWSTYLE = 2 ^ 0
+
+abbrev pub NBD-FLAG-NO-ZEROES : ℕ
+NBD-FLAG-NO-ZEROES = 2 ^ 1
+
+abbrev pub NBD-FLAG-C-FIXED-NEWSTYLE : ℕ
+NBD-FLAG-C-FIXED-NEWSTYLE = NBD-FLAG-FIXED-NEWSTYLE
+
+abbrev pub NBD-FLAG-C-NO-ZEROES : ℕ
+NBD-FLAG-C-NO-ZEROES = NBD-FLAG-NO-ZEROES
+
+-- ---- an export's flags
+abbrev pub NBD-FLAG-HAS-FLAGS : ℕ
+NBD-FLAG-HAS-FLAGS = 2 ^ 0
+
+abbrev pub NBD-FLAG-READ-ONLY : ℕ
+NBD-FLAG-READ-ONLY = 2 ^ 1
+
+abbrev pub NBD-FLAG-SEND-FLUSH : ℕ
+NBD-FLAG-SEND-FLUSH = 2 ^ 2
+
+abbrev pub NBD-FLAG-ROTATIONAL : ℕ
+NBD-FLAG-ROTATIONAL = 2 ^ 4
+
+abbrev pub NBD-FLAG-SEND-TRIM : ℕ
+NBD-FLAG-SEND-TRIM = 2 ^ 5
+
+abbrev pub NBD-FLAG-SEND-RESIZE : ℕ
+NBD-FLAG-SEND-RESIZE = 2 ^ 9
+
+-- ---- request types
+abbrev pub NBD-CMD-READ : ℕ
+NBD-CMD-READ = 0
+
+abbrev pub NBD-CMD-WRITE : ℕ
+NBD-CMD-WRITE = 1
+
+abbrev pub NBD-CMD-DISC : ℕ
+NBD-CMD-DISC = 2
+
+abbrev pub NBD-CMD-FLUSH : ℕ
+NBD-CMD-FLUSH = 3
+
+abbrev pub NBD-CMD-TRIM : ℕ
+NBD-CMD-TRIM = 4
+
+abbrev pub NBD-CMD-WRITE-ZEROES : ℕ
+NBD-CMD-WRITE-ZEROES = 6
+
+abbrev pub NBD-CMD-RESIZE : ℕ
+NBD-CMD-RESIZE = 8
