@@ -1,6 +1,6 @@
--- Document 000's constants and leaf functions are the port's. They are so for any numbers: where a number is wider than its field, both write its low bytes.
+-- Document 000's constants and leaf functions are the port's, for any numbers: of one that is wider than its field, both write the low bytes.
 --   same-strings, same-magics, same-options, same-replies, same-handshake-flags, same-export-flags, same-types   the constants
---   has-bit                    `flags & k != 0`, of one digit
+--   has-bit                    `flags & k != 0`, where k is one binary digit
 --   same-flags, same-readonly  the flags that answer EXPORT_NAME; that an export is read-only
 --   same-sum, same-clamp       `checked_add_i64`; `clamp_to_u32`
 --   same-zeros                 a comparison with zeros

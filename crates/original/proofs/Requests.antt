@@ -109,6 +109,11 @@ module _ (t m : List ℕ) (e : Export) where
       holds = refl;
     }
 
+    -- one with a reply alone
+    replied : (typ len error : ℕ) → Moves (turn t) (on ready m) (request flags typ handle offset len) (simpleReply error handle) (on ready m)
+        → Went (asks typ len) (replyt error handle) (window e m) left
+    replied typ len error p = rw (same-reply error handle) (answered typ len p)
+
     -- one that ends the session
     over : (typ len n : ℕ) → Moves (turn t) (on ready m) (request flags typ handle offset len) [] (on (Over n) m) → Step (asks typ len) (stop [] (window e m) left (ended n))
     over typ len n p = rw (placed-window m e) (meets-over p refl)
@@ -149,7 +154,7 @@ module _ (t m : List ℕ) (e : Export) where
       step-write h writable there = go (eqb len 0) refl
         where
           go : (b : Bool) → eqb len 0 ≡ b → Step (asks NBD-CMD-WRITE len) (writes handle offset len (window e m) left)
-          go true q = rw (eqb-true len 0 q, same-reply 0 handle) (answered NBD-CMD-WRITE 0 (whole-write-nothing t m e flags handle offset handle-fits offset-fits writable))
+          go true q = rw (eqb-true len 0 q) (replied NBD-CMD-WRITE 0 0 (whole-write-nothing t m e flags handle offset handle-fits offset-fits writable))
           go false q =
               let some-len = positive len (eqb-false len 0 q) in
               let fits = not-past e offset len h some-len in
@@ -170,11 +175,11 @@ module _ (t m : List ℕ) (e : Export) where
           λ q1.
           picked (Step (asks typ len)) (eqb typ 2) (λ q. rw (eqb-true typ 2 q) (over 2 len 0 (whole-disc t m e flags handle offset handle-fits offset-fits len len-fits)))
           λ q2.
-          picked (Step (asks typ len)) (eqb typ 3) (λ q. rw (eqb-true typ 3 q, same-reply 0 handle) (answered 3 len (whole-flush t m e flags handle offset handle-fits offset-fits len len-fits)))
+          picked (Step (asks typ len)) (eqb typ 3) (λ q. rw (eqb-true typ 3 q) (replied 3 len 0 (whole-flush t m e flags handle offset handle-fits offset-fits len len-fits)))
           λ q3.
-          picked (Step (asks typ len)) (eqb typ 4) (λ q. rw (eqb-true typ 4 q, same-reply 38 handle) (answered 4 len (whole-trim t m e flags handle offset handle-fits offset-fits len len-fits)))
+          picked (Step (asks typ len)) (eqb typ 4) (λ q. rw (eqb-true typ 4 q) (replied 4 len 38 (whole-trim t m e flags handle offset handle-fits offset-fits len len-fits)))
           λ q4.
-          picked (Step (asks typ len)) (eqb typ 6) (λ q. rw (eqb-true typ 6 q, same-reply 38 handle) (answered 6 len (whole-write-zeroes t m e flags handle offset handle-fits offset-fits len len-fits)))
+          picked (Step (asks typ len)) (eqb typ 6) (λ q. rw (eqb-true typ 6 q) (replied 6 len 38 (whole-write-zeroes t m e flags handle offset handle-fits offset-fits len len-fits)))
           λ q6.
           over typ len 11 (whole-unknown-request t m e flags handle offset handle-fits offset-fits len len-fits typ fits
           (unknown typ (eqb-false typ 0 q0) (eqb-false typ 1 q1) (eqb-false typ 2 q2) (eqb-false typ 3 q3) (eqb-false typ 4 q4) (eqb-false typ 6 q6)))

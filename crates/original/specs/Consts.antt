@@ -1,5 +1,5 @@
--- Document 000's constants as literals read from lib.rs: `mod consts` under its own names, and the magics, which its functions write out, under the protocol
--- text's. Nothing of the port stands here, so that a constant that is changed in the port is refused (`same-constants` of proofs/Leaves.antt).
+-- Document 000's constants as literals read from lib.rs: `mod consts` under its own names, and the magics, which its functions write out, under the port's.
+-- Nothing of the port's values stands here, so that one that is changed there is refused (the first laws of proofs/Leaves.antt).
 -- `1 << k` is 2 ^ k, and `|` is bitOr. What no function of 000 uses is left out.
 use Prim.Native.Nat.{ℕ, _^_}
 use mathlib.Core.List.{List, [], _∷_}

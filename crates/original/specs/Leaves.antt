@@ -1,15 +1,15 @@
 -- Document 000's leaf functions, each as lib.rs computes it, and what it writes, in the order of its `write_*` calls.
 --   has                     `flags & k != 0`
 --   Fields, exportFlags     the fields of an `Export` that its flags are made of; the flags that answer EXPORT_NAME
---   tableFields                the fields for the flags byte of a table's record
+--   tableFields             the fields that the callback finds in a table's flags byte
 --   fromUtf8                std's `from_utf8`
---   checkedAddI64, clampToU32
+--   checkedAddI64           `checked_add_i64`; clampToU32: `clamp_to_u32`
 --   u16, u32, u64, zeros    `write_u16`, `write_u32`, `write_u64` and `write_all(&[0; 124])`
---   oldstyleHeader, greeting, reply, exportReply, replyt   what a server writes
---   exportName, sendrequest                                what a client writes
--- Shared with the port, here and in the files above: `pick`, `both`, `between`, which are words; `be`, `number` and `sameBytes`, which wire's proofs/BigEndian
--- pins by laws of their own and which stand for byteorder and `==`; the table's `records`, which the callback searches and no part of 000 knows; and the
--- types `Export` and `SeekFrom`, which hold values. A number or an order of fields that is changed in the port changes none of them.
+--   oldstyleHeader, greeting, reply, exportReply, replyt   what the server writes
+--   exportName, sendrequest                                what the client writes
+-- What this crate's reading of 000 shares with the port, and why that hides no fault: `pick`, `both`, `either` and `between` are words; `be`, `number` and
+-- `sameBytes` stand for byteorder and `==`, and wire's proofs/BigEndian.antt pins them by laws of their own; the table's `records` are 01's, which no part of
+-- 000 knows; the types `Export` and `SeekFrom` only hold values.
 use Prim.Native.Nat.{ℕ, suc, _+_, _-_, _^_}
 use mathlib.Core.Bool.{Bool, true, false, not}
 use mathlib.Core.List.{List, [], _∷_, _++_}
@@ -48,7 +48,7 @@ exportFlags e =
     (orIf (e .resizeable) NBD-FLAG-SEND-RESIZE
     (bitOr NBD-FLAG-HAS-FLAGS (pick (e .readonly) NBD-FLAG-READ-ONLY NBD-FLAG-SEND-FLUSH))))
 
--- ---- `from_utf8` takes the texts of RFC 3629. By section 4's UTF8-char: which bytes may follow a first one; none for a byte that begins no character
+-- ---- `from_utf8` takes the texts of RFC 3629: by UTF8-char of its section 4, which bytes follow a first one; none where that begins no character
 abbrev pub tail : ℕ → Bool
 tail = between 0x80 0xBF
 
