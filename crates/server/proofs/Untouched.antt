@@ -1,6 +1,6 @@
 -- "The export's window is a part of the lent image; no other image byte is ever written."
---   moves-untouched   of moves, from any state that a step accepts to any state
---   step-untouched    of every step of the code, from any struct: refused, going on or ended. What a refused step leaves, `Refuses` says: all
+--   moves-untouched   of moves, from any state that a step accepts
+--   step-untouched    of every step of the code, from any struct, in its ranges or not: going on, ended or refused (`Refuses` adds that such a step leaves all)
 use Prim.Native.Nat.{ℕ, zero, suc, _+_, _<_}
 use mathlib.Core.Path.{_≡_, refl, sym, ap, _∙_}
 use mathlib.Core.Bool.{Bool, true, false}
