@@ -52,7 +52,7 @@ returns-2 c =
     let v = stands-for (view (c .before .before .before .before .before .before .advance .result .state)) (next-good (c .before .before .before .before .before .before .advance .ensures .goes .moves) (accepted (now (c .before .before .before .before .before .before .before .before .before .before .before .before .before .before .before .args .table)) (length (now (c .before .before .before .before .before .before .before .before .before .before .before .before .before .before .before .args .image))) (c .before .before .before .before .before .before .before .before .before .before .before .before .before .before .before .args .self) fine) .within) t in
     record {
       refuses = λ z. absurd (z fine);
-      accepts = λ _. record { steps = rw v (c .before .before .before .before .before .before .advance .ensures); one-struct = t ∙ ap code (sym v); outcome = c .told .ensures; number = ap numberOf (c .told .ensures) ∙ numbered _ };
+      accepts = λ _. record { steps = rw v (c .before .before .before .before .before .before .advance .ensures); one-struct = t ∙ ap code (sym v); outcome = c .told .ensures; number = ap numberOf (c .told .ensures) ∙ numbered (view (c .before .tidied .result)) };
     }
 
 pub step-spec : {M : Type 1} → statement M
