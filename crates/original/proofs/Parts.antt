@@ -20,7 +20,7 @@ use Rattle.machine.proofs.Bulk.{folds, drops}
 use Rattle.wire.specs.Fields.{number, sameBytes}
 use Rattle.wire.specs.Constants.{IHAVEOPT, NBD-REQUEST-MAGIC}
 use Rattle.wire.specs.Table.{records}
-use Rattle.wire.specs.Lookup.{started, word}
+use Rattle.wire.specs.Lookup.{started}
 use Rattle.wire.specs.declared.utf8.Utf8.the-variants.{Start}
 use Rattle.wire.specs.declared.table.Export.{Export}
 use Rattle.wire.proofs.BigEndian.{same-bytes-refl}
@@ -87,9 +87,9 @@ module _ (t m : List ℕ) where
         k : ℕ
         k = len - suc (length input)
 
-        name : Wants (naming z t (word (started (records t) len)) Start 0 len)
+        name : Wants (naming z t (started (records t) len) Start 0 len)
         name =
-            let v : Seen = record { fits = word (started (records t) len); text = Start; at = 0 } in
+            let v : Seen = record { fits = started (records t) len; text = Start; at = 0 } in
             record {
               state = stands z t (foldl (sees t) v input) (suc k);
               next = _;

@@ -11,7 +11,7 @@ use Rattle.wire.specs.Fields.{be, number, sameBytes}
 use Rattle.wire.specs.Layouts as wire
 use Rattle.wire.specs.Utf8.{next, lead}
 use Rattle.wire.specs.Table.{recordBytes, front, sized, recordsIn, records, wireFlags}
-use Rattle.wire.specs.Lookup.{started, bits}
+use Rattle.wire.specs.Lookup.{started}
 use Rattle.wire.proofs.BigEndian.{same-bytes-refl}
 use Rattle.server.specs.Request.{owed}
 use Rattle.machine.specs.Session.{Finished}
@@ -45,7 +45,7 @@ pub all-differ :
     × ((tests pastWrite ≡ false ∷ true ∷ false ∷ false ∷ []) × Differs pastWrite)
     × ((tests readOnlyWrite ≡ false ∷ false ∷ true ∷ false ∷ []) × Differs readOnlyWrite)
     × ((tests cutWrite ≡ false ∷ false ∷ false ∷ true ∷ []) × Differs cutWrite)
-unfolding be number sameBytes wire.greeting wire.exportReply wire.simpleReply next lead recordBytes front sized recordsIn records wireFlags started bits owed flagged named payload opted requested has exportFlags octets greeting exportReply replyt turns writeAll option options handshake command oneRequest transmission
+unfolding be number sameBytes wire.greeting wire.exportReply wire.simpleReply next lead recordBytes front sized recordsIn records wireFlags started owed flagged named payload opted requested has exportFlags octets greeting exportReply replyt turns writeAll option options handshake command oneRequest transmission
 all-differ = (
   (refl, by-sent pastRead (record { none-left = λ w. refl; none-owed = refl }) refl),
   (refl, by-sent pastWrite (record { none-left = λ w. refl; none-owed = refl }) refl),
