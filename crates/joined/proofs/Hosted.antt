@@ -27,7 +27,7 @@ use Rattle.client.specs.declared.state.Device.{Device}
 use Rattle.client.proofs.Refusals.{in-range}
 use Rattle.client.proofs.Result.{in-ranges}
 use Rattle.joined.specs.Disk.{Call, Result}
-use Rattle.joined.specs.Code.{Code, joint, Ready, calls}
+use Rattle.joined.specs.Code.{Code, joint, Ready}
 use Rattle.joined.specs.Host.{Hosts, stop, client-visit, server-visit, shake, call, Rounds, no-round, round}
 use Rattle.joined.proofs.Driver.{Driver, over, settle, drive}
 use Rattle.joined.proofs.Driving.{followed, already, shaken-already}

@@ -35,7 +35,7 @@ use Rattle.client.specs.declared.state.Outcome.the-variants.{Refused}
 use Rattle.client.specs.declared.Stepped as driven
 use Rattle.client.proofs.Result.{within as driven-within}
 use Rattle.joined.specs.Disk.{Call, Result}
-use Rattle.joined.specs.Code.{Code, joint, clientAt, serverAt, Move, client-step, server-step, move, ClientCarries, ServerCarries}
+use Rattle.joined.specs.Code.{Code, joint, clientAt, serverAt, Move, client-step, server-step, ClientCarries, ServerCarries}
 
 -- ---- a step of the client
 pub record Driven (c : Client) (m input room : List ℕ) : Type 0 where
