@@ -6,6 +6,7 @@ pub mod Tests
 pub mod Window
 pub mod Names
 pub mod Bounds
+pub mod Owing
 pub mod Records
 pub mod Kept
 pub mod Tidy

@@ -8,7 +8,7 @@ use mathlib.Core.Bool.{Bool, true, false}
 use mathlib.Core.List.{List, [], _++_}
 use native.Mathlib.Omega.{arith}
 use lib.ListN.{length, getD, take, drop}
-use lib.Seq.{paste, length-take-le, take-all}
+use lib.Seq.{paste, take-all}
 use Rattle.machine.specs.Machine.{on, gives}
 use Rattle.machine.specs.Pieces.{Emits}
 use Rattle.machine.specs.Bulk.{Sends, Drops}
@@ -74,18 +74,6 @@ pub exported-part : (z : Bool) (e : Export) → take (replyLength z) (exported t
 unfolding exportReply be
 exported-part true e = refl
 exported-part false e = refl
-
-within-longer : (z : Bool) → replyLength z ≤ 134
-within-longer true = omega arith
-within-longer false = omega arith
-
--- as the code has it: `all` bytes of those that were made
-pub reply-bytes : (z : Bool) (e : Export) (all : ℕ) (made : List ℕ) → all ≡ replyLength z → made ≡ exported true e
-    → (all ≤ length made) × (take all made ≡ exported z e) × (length (take all made) ≡ all)
-reply-bytes z e all made p q =
-    let l : length made ≡ 134 = ap length q ∙ length-exported true e in
-    let h : all ≤ length made = omega (arith, within-longer z) in
-    (h, rw (p, q) (exported-part z e), length-take-le all made h)
 
 -- ---- the old-style header over the front of a room
 length-oldstyle : (size flags : ℕ) → length (oldstyleHeader size flags) ≡ 152

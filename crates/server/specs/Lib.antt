@@ -1,6 +1,7 @@
 pub mod Request
 pub mod Session
 pub mod View
+pub mod Owed
 pub mod Ranges
 pub mod Pieces
 pub mod Contract

@@ -1,6 +1,5 @@
 // The handshake: the greeting, the client's flags, and options until one of them chooses an export.
 use crate::ranges;
-use crate::state::Gave;
 use crate::state::Handshake;
 use crate::state::Phase;
 use crate::state::Server;
@@ -17,23 +16,18 @@ use wire::table::Export;
 use wire::utf8::Utf8;
 ghost use mathlib.Core.Path.{_≡_};
 ghost use mathlib.Core.Bool.{true};
-ghost use mathlib.Core.List.{List};
+ghost use mathlib.Core.List.{List, []};
 ghost use Prim.Native.Nat.{ℕ, _+_, _-_, _<_, _≤_};
 ghost use lib.ListN.{length, take};
 ghost use Rattle.machine.specs.Machine.{on};
-ghost use Rattle.machine.specs.Pieces.{Absorbs, Emits};
+ghost use Rattle.machine.specs.Pieces.{Absorbs};
 ghost use Rattle.wire.specs.Layouts.{greeting, optionReplyHead};
 ghost use Rattle.wire.specs.Lookup.{setOf};
 ghost use Rattle.server.specs.Session.{
-  Greeting,
   ClientFlags,
   OptionHead,
   Naming,
   Passing,
-  Listing,
-  Declining,
-  Aborting,
-  Exporting,
   Shaking,
   greeted,
   listing,
@@ -44,7 +38,6 @@ ghost use Rattle.server.specs.Session.{
   optionUntil,
   answered,
   passing,
-  replyLength,
   named,
   naming,
   payload,
@@ -53,7 +46,8 @@ ghost use Rattle.server.specs.Session.{
   exported,
   turn,
 };
-ghost use Rattle.server.specs.View.{view, viewOf};
+ghost use Rattle.server.specs.View.{view, viewOf, handshakeOf};
+ghost use Rattle.server.specs.Owed.{replyOf, leftOf, withLeft, Owes};
 
 // ---- the phases that follow where nothing may be left
 
@@ -261,13 +255,13 @@ fn opted(zeroes: bool, table: &[u8], head: [u8; 28], k: usize) -> Phase
     payload(zeroes, table, option, len)
 }
 
-// ---- what is sent
+// ---- what is sent: each reply in front of zeros, in as many bytes as the longest has
 
 // An option reply's fields before its data, which has len bytes.
-fn option_reply(option: u32, typ: u32, len: u32) -> [u8; 20]
-    ensures { λ r. ⌜ r ≡ optionReplyHead option typ len ⌝ }
+fn option_reply(option: u32, typ: u32, len: u32) -> [u8; 134]
+    ensures { λ r. ⌜ take 20 r ≡ optionReplyHead option typ len ⌝ }
 {
-    let mut bytes = [0u8; 20];
+    let mut bytes = [0u8; 134];
     fields::write_u64(&mut bytes, 0, consts::NBD_OPT_REPLY_MAGIC);
     fields::write_u32(&mut bytes, 8, option);
     fields::write_u32(&mut bytes, 12, typ);
@@ -275,10 +269,10 @@ fn option_reply(option: u32, typ: u32, len: u32) -> [u8; 20]
     bytes
 }
 
-fn greeting() -> [u8; 18]
-    ensures { λ r. ⌜ r ≡ greeting ⌝ }
+fn greeting() -> [u8; 134]
+    ensures { λ r. ⌜ take 18 r ≡ greeting ⌝ }
 {
-    let mut bytes = [0u8; 18];
+    let mut bytes = [0u8; 134];
     copy::copy_part(&consts::NBDMAGIC, 0, &mut bytes, 0, 8);
     copy::copy_part(&consts::IHAVEOPT, 0, &mut bytes, 8, 8);
     fields::write_u16(
@@ -289,12 +283,12 @@ fn greeting() -> [u8; 18]
     bytes
 }
 
-fn list_replies() -> [u8; 51]
-    ensures { λ r. ⌜ r ≡ listReplies ⌝ }
+fn list_replies() -> [u8; 134]
+    ensures { λ r. ⌜ take 51 r ≡ listReplies ⌝ }
 {
     let server = option_reply(consts::NBD_OPT_LIST, consts::NBD_REP_SERVER, 11);
     let ack = option_reply(consts::NBD_OPT_LIST, consts::NBD_REP_ACK, 0);
-    let mut bytes = [0u8; 51];
+    let mut bytes = [0u8; 134];
     copy::copy_part(&server, 0, &mut bytes, 0, 20);
     fields::write_u32(&mut bytes, 20, 7);
     copy::copy_part(&consts::RUSTNBD, 0, &mut bytes, 24, 7);
@@ -383,70 +377,78 @@ pub fn pass(
     }
 }
 
-// ---- one leaf for each phase that gives
+// ---- what each phase owes, and where it goes
 
-pub fn greet(head: [u8; 28], left: usize, room: &mut [u8]) -> Gave
-    requires { ⌜ (0 < left) × (left ≤ 18) ⌝ }
-    ensures { λ r. ⌜ ((t m : List ℕ) → Emits (turn t) (on (Shaking (Greeting left)) m) (now (room .entry)) (r .given) (on (view (r .state)) m) (now (room .exit))) ⌝ }
+// A reply: the first `len` of these bytes, and its last `left` bytes are owed.
+pub struct Reply {
+    pub bytes: [u8; 134],
+    pub len: usize,
+    pub left: usize,
+}
+
+fn nothing() -> Reply
+    ensures { λ r. ⌜ Owes [] 0 (r .bytes) (r .len) (r .left) ⌝ }
 {
-    let bytes = greeting();
-    let n = parts::give(&bytes, left, room);
-    let phase = greeted(left - n);
-    Gave {
-        state: Server { phase, head },
-        given: n,
+    Reply {
+        bytes: [0u8; 134],
+        len: 0,
+        left: 0,
     }
 }
 
-pub fn list(head: [u8; 28], zeroes: bool, left: usize, room: &mut [u8]) -> Gave
-    requires { ⌜ (0 < left) × (left ≤ 51) ⌝ }
-    ensures { λ r. ⌜ ((t m : List ℕ) → Emits (turn t) (on (Shaking (Listing zeroes left)) m) (now (room .entry)) (r .given) (on (view (r .state)) m) (now (room .exit))) ⌝ }
+pub fn owed(p: Handshake) -> Reply
+    ensures { λ r. ⌜ ((h : List ℕ) → Owes (replyOf (handshakeOf h p)) (leftOf (handshakeOf h p)) (r .bytes) (r .len) (r .left)) ⌝ }
 {
-    let bytes = list_replies();
-    let n = parts::give(&bytes, left, room);
-    let phase = listing(zeroes, left - n);
-    Gave {
-        state: Server { phase, head },
-        given: n,
+    match p {
+        Handshake::Greeting { left } => Reply {
+            bytes: greeting(),
+            len: 18,
+            left,
+        },
+        Handshake::Listing { left, .. } => Reply {
+            bytes: list_replies(),
+            len: 51,
+            left,
+        },
+        Handshake::Declining { option, left, .. } => Reply {
+            bytes: option_reply(option, consts::NBD_REP_ERR_UNSUP, 0),
+            len: 20,
+            left,
+        },
+        Handshake::Aborting { left } => Reply {
+            bytes: option_reply(consts::NBD_OPT_ABORT, consts::NBD_REP_ACK, 0),
+            len: 20,
+            left,
+        },
+        Handshake::Exporting {
+            zeroes,
+            export,
+            left,
+        } => Reply {
+            bytes: export_reply(export),
+            len: ranges::reply_length(zeroes),
+            left,
+        },
+        Handshake::ClientFlags { .. } => nothing(),
+        Handshake::OptionHead { .. } => nothing(),
+        Handshake::Naming { .. } => nothing(),
+        Handshake::Passing { .. } => nothing(),
     }
 }
 
-pub fn decline(head: [u8; 28], zeroes: bool, option: u32, left: usize, room: &mut [u8]) -> Gave
-    requires { ⌜ (0 < left) × (left ≤ 20) ⌝ }
-    ensures { λ r. ⌜ ((t m : List ℕ) → Emits (turn t) (on (Shaking (Declining zeroes option left)) m) (now (room .entry)) (r .given) (on (view (r .state)) m) (now (room .exit))) ⌝ }
+// The phase with so many bytes left to give.
+pub fn with_left(p: Handshake, left: usize) -> Phase
+    ensures { λ r. ⌜ ((h : List ℕ) → viewOf h r ≡ withLeft (handshakeOf h p) left) ⌝ }
 {
-    let bytes = option_reply(option, consts::NBD_REP_ERR_UNSUP, 0);
-    let n = parts::give(&bytes, left, room);
-    let phase = declining(zeroes, option, left - n);
-    Gave {
-        state: Server { phase, head },
-        given: n,
-    }
-}
-
-pub fn abort(head: [u8; 28], left: usize, room: &mut [u8]) -> Gave
-    requires { ⌜ (0 < left) × (left ≤ 20) ⌝ }
-    ensures { λ r. ⌜ ((t m : List ℕ) → Emits (turn t) (on (Shaking (Aborting left)) m) (now (room .entry)) (r .given) (on (view (r .state)) m) (now (room .exit))) ⌝ }
-{
-    let bytes = option_reply(consts::NBD_OPT_ABORT, consts::NBD_REP_ACK, 0);
-    let n = parts::give(&bytes, left, room);
-    let phase = aborting(left - n);
-    Gave {
-        state: Server { phase, head },
-        given: n,
-    }
-}
-
-pub fn export(head: [u8; 28], zeroes: bool, export: Export, left: usize, room: &mut [u8]) -> Gave
-    requires { ⌜ (0 < left) × (left ≤ replyLength zeroes) ⌝ }
-    ensures { λ r. ⌜ ((t m : List ℕ) → Emits (turn t) (on (Shaking (Exporting zeroes export left)) m) (now (room .entry)) (r .given) (on (view (r .state)) m) (now (room .exit))) ⌝ }
-{
-    let bytes = export_reply(export);
-    let all = ranges::reply_length(zeroes);
-    let n = parts::give(&bytes[..all], left, room);
-    let phase = exporting(zeroes, export, left - n);
-    Gave {
-        state: Server { phase, head },
-        given: n,
+    match p {
+        Handshake::Greeting { .. } => greeted(left),
+        Handshake::Listing { zeroes, .. } => listing(zeroes, left),
+        Handshake::Declining { zeroes, option, .. } => declining(zeroes, option, left),
+        Handshake::Aborting { .. } => aborting(left),
+        Handshake::Exporting { zeroes, export, .. } => exporting(zeroes, export, left),
+        Handshake::ClientFlags { .. } => Phase::Shaking(p),
+        Handshake::OptionHead { .. } => Phase::Shaking(p),
+        Handshake::Naming { .. } => Phase::Shaking(p),
+        Handshake::Passing { .. } => Phase::Shaking(p),
     }
 }

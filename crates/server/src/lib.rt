@@ -8,6 +8,7 @@ pub mod state;
 mod transmission;
 
 use machine::copy;
+use machine::parts;
 use state::Gave;
 use state::Handshake;
 use state::Moved;
@@ -150,35 +151,13 @@ fn emit_shaking(head: [u8; 28], p: Handshake, room: &mut [u8]) -> Gave
     requires { ⌜ rangedShaking (handshakeOf head p) ≡ true ⌝ }
     ensures { λ r. ⌜ ((t m : List ℕ) → Emits (turn t) (on (Shaking (handshakeOf head p)) m) (now (room .entry)) (r .given) (on (view (r .state)) m) (now (room .exit))) ⌝ }
 {
-    match p {
-        Handshake::Greeting { left } => handshake::greet(head, left, room),
-        Handshake::Listing { zeroes, left } => handshake::list(head, zeroes, left, room),
-        Handshake::Declining {
-            zeroes,
-            option,
-            left,
-        } => handshake::decline(head, zeroes, option, left, room),
-        Handshake::Aborting { left } => handshake::abort(head, left, room),
-        Handshake::Exporting {
-            zeroes,
-            export,
-            left,
-        } => handshake::export(head, zeroes, export, left, room),
-        Handshake::ClientFlags { have: _ } => idle::gives_none(Phase::Shaking(p), head),
-        Handshake::OptionHead { zeroes: _, have: _ } => idle::gives_none(Phase::Shaking(p), head),
-        Handshake::Naming {
-            zeroes: _,
-            fits: _,
-            text: _,
-            at: _,
-            left: _,
-        } => idle::gives_none(Phase::Shaking(p), head),
-        Handshake::Passing {
-            zeroes: _,
-            option: _,
-            len: _,
-            left: _,
-        } => idle::gives_none(Phase::Shaking(p), head),
+    let owed = handshake::owed(p);
+    let bytes = owed.bytes;
+    let n = parts::give(&bytes[..owed.len], owed.left, room);
+    let phase = handshake::with_left(p, owed.left - n);
+    Gave {
+        state: Server { phase, head },
+        given: n,
     }
 }
 
