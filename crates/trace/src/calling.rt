@@ -1,38 +1,26 @@
-// The client's commands.
+// The client's calls.
+use crate::command::Call;
+use crate::command::Step;
 use crate::host;
 use crate::host::Host;
-use crate::host::Next;
 use crate::print;
 use crate::print::Answer;
-use crate::room;
+use crate::room::Made;
+use crate::room::Moved;
 use client::Called;
 use client::Info;
-use client::state::Call;
+use client::state;
 use client::state::Client;
 use client::state::Device;
 use client::state::Outcome;
 use client::state::Phase;
-use client::state::SeekFrom;
 use client::state::Value;
-use machine::copy;
-use wire::fields;
 ghost use mathlib.Core.Path.{_≡_};
-ghost use Prim.Native.Nat.{_≤_};
 ghost use lib.ListN.{length};
+ghost use Rattle.machine.specs.Choice.{pick};
 ghost use Rattle.client.specs.Contract.{known};
-ghost use Rattle.trace.specs.Buffers.{Full, Lent};
-ghost use Rattle.trace.specs.Text.{twos, valueShown, calledOf, isResize, resizing, sizeOf};
-
-// The signed number whose two's complement is x.
-fn signed(x: u64) -> i64
-    ensures { λ r. ⌜ r ≡ twos x ⌝ }
-{
-    if x < 0x8000_0000_0000_0000 {
-        return x as i64;
-    }
-    let y = 0xFFFF_FFFF_FFFF_FFFF - x;
-    -1 - y as i64
-}
+ghost use Rattle.trace.specs.Buffers.{Lent, MadeIn, Room};
+ghost use Rattle.trace.specs.Text.{valueShown, calledOf, isResize, resizing, sizeOf};
 
 // ---- answers
 
@@ -60,15 +48,15 @@ fn answer(o: Outcome, none: u64) -> Answer
     }
 }
 
-fn is_resize(c: Call) -> bool
+fn is_resize(c: state::Call) -> bool
     ensures { λ r. ⌜ r ≡ isResize c ⌝ }
 {
     match c {
-        Call::Read { n: _, len: _ } => false,
-        Call::Write { n: _, len: _ } => false,
-        Call::Flush => false,
-        Call::Trim { n: _ } => false,
-        Call::Resize { size: _ } => true,
+        state::Call::Read { n: _, len: _ } => false,
+        state::Call::Write { n: _, len: _ } => false,
+        state::Call::Flush => false,
+        state::Call::Trim { n: _ } => false,
+        state::Call::Resize { size: _ } => true,
     }
 }
 
@@ -98,117 +86,66 @@ fn size(s: Client) -> u64
     }
 }
 
-// A step with this input and this room, and its line. A resize that succeeds shows the client's size.
-fn step(s: Client, slice: &mut [u8], before: &mut [u8], input: &[u8], room: &mut [u8]) -> Client
-    requires { ⌜ length (now slice) ≡ length (now before) ⌝ }
+// What a step's line shows where the call gives no value: after a resize, the client's size.
+fn shown(before: Client, after: Client) -> u64
+    ensures { λ r. ⌜ r ≡ pick (resizing (before .phase)) (sizeOf (known after)) 0 ⌝ }
 {
-    copy::copy(slice, before);
-    room::fill(room);
-    let r = s.step(input, room, slice);
-    let next = r.state;
-    let none = if resizing(s) { size(next) } else { 0 };
-    let o = r.outcome;
-    let a = answer(o, none);
-    room::show(a, r.taken, r.given, room, room::kept(a, slice, before));
-    next
+    if resizing(before) { size(after) } else { 0 }
 }
 
-// The line of a call, which takes and gives nothing.
-fn called(h: Host, r: Called) -> Next
-    requires { ⌜ Lent h ⌝ }
-    ensures { λ r. ⌜ Lent (r .host) ⌝ }
+// ---- calls
+
+// A step with the payload's input and with this room.
+pub fn step(h: Host, k: Step, still: &[u8], lent: &mut [u8], room: &mut [u8]) -> Made
+    requires { ⌜ Lent h × Room k × (length (now still) ≡ 786432) × (length (now lent) ≡ 524288) × (length (now room) ≡ 262144) ⌝ }
+    ensures { λ r. ⌜ MadeIn k r ⌝ }
 {
+    let slice = host::second();
+    let last = slice + h.slice;
+    let end = k.end;
+    let n = k.room;
+    let s = h.client;
+    let r = s.step(&still[4..end], &mut room[0..n], &mut lent[slice..last]);
+    let client = r.state;
+    let o = r.outcome;
+    let moved = Moved {
+        answer: answer(o, shown(s, client)),
+        taken: r.taken,
+        given: r.given,
+    };
+    let host = h.with_client(client);
+    Made { host, moved }
+}
+
+fn make(c: Client, k: Call, slice: &[u8]) -> Called {
+    match k {
+        Call::Handshake => c.handshake(slice),
+        Call::End => c.end_of_input(),
+        Call::Read => c.read(slice),
+        Call::Write => c.write(slice),
+        Call::Flush => c.flush(),
+        Call::Seek(from) => c.seek(from),
+        Call::Trim(n) => c.trim(n),
+        Call::Resize(n) => c.resize(n),
+    }
+}
+
+// A call with the client's slice, and its line.
+pub fn call(h: Host, k: Call, lent: &[u8]) -> Host
+    requires { ⌜ Lent h × (length (now lent) ≡ 524288) ⌝ }
+    ensures { λ r. ⌜ Lent r ⌝ }
+{
+    let slice = host::second();
+    let last = slice + h.slice;
+    let c = h.client;
+    let r = make(c, k, &lent[slice..last]);
     let o = r.outcome;
     print::line(answer(o, 0), 0, b"", false);
-    let s = r.state;
-    h.with_client(s).goes_on()
+    let client = r.state;
+    h.with_client(client)
 }
 
-// ---- the commands
-
-// `B`
-fn lend_slice(h: Host, payload: &[u8], slice: &mut [u8]) -> Next
-    requires { ⌜ Lent h × Full (now slice) × (length (now payload) ≤ 262144) ⌝ }
-    ensures { λ r. ⌜ Lent (r .host) ⌝ }
-{
-    let server = h.server;
-    let client = h.client;
-    let n = host::lend(payload, slice);
-    let next = Host {
-        server,
-        client,
-        table: h.table,
-        image: h.image,
-        slice: n,
-    };
-    next.goes_on()
-}
-
-// `c`: the room's size (4), and the input.
-fn take_step(h: Host, payload: &[u8], slice: &mut [u8], before: &mut [u8], room: &mut [u8]) -> Next
-    requires { ⌜ Lent h × Full (now slice) × Full (now before) ⌝ }
-    ensures { λ r. ⌜ Lent (r .host) ⌝ }
-{
-    if payload.len() < 4 {
-        return h.bad();
-    }
-    let n = fields::read_u32(payload, 0) as usize;
-    if room.len() < n {
-        return h.bad();
-    }
-    let m = h.slice;
-    let s = h.client;
-    let client = step(
-        s,
-        &mut slice[0..m],
-        &mut before[0..m],
-        &payload[4..],
-        &mut room[0..n],
-    );
-    h.with_client(client).goes_on()
-}
-
-// `k`: from where (1), and the offset (8).
-fn take_seek(h: Host, payload: &[u8]) -> Next
-    requires { ⌜ Lent h ⌝ }
-    ensures { λ r. ⌜ Lent (r .host) ⌝ }
-{
-    if payload.len() != 9 {
-        return h.bad();
-    }
-    let x = fields::read_u64(payload, 1);
-    let s = h.client;
-    match payload[0] {
-        0 => called(h, s.seek(SeekFrom::Start(x))),
-        1 => called(h, s.seek(SeekFrom::Current(signed(x)))),
-        2 => called(h, s.seek(SeekFrom::End(signed(x)))),
-        _ => h.bad(),
-    }
-}
-
-// `t` and `z`: a length or a new size (8).
-fn take_number(h: Host, command: u8, payload: &[u8]) -> Next
-    requires { ⌜ Lent h ⌝ }
-    ensures { λ r. ⌜ Lent (r .host) ⌝ }
-{
-    if payload.len() != 8 {
-        return h.bad();
-    }
-    let x = fields::read_u64(payload, 0);
-    let s = h.client;
-    if command == b't' {
-        called(h, s.trim(x))
-    } else {
-        called(h, s.resize(x))
-    }
-}
-
-// `b`
-fn show_slice(slice: &[u8]) {
-    print::text(b"slice");
-    print::hex(slice);
-    print::close(false);
-}
+// ---- `q`
 
 fn show_device(d: Device) {
     let f = d.fields;
@@ -221,8 +158,7 @@ fn show_device(d: Device) {
     print::bit(f.send_flush);
 }
 
-// `q`
-fn show_client(s: Client) {
+pub fn show(s: Client) {
     print::text(b"client");
     let i = s.info();
     match i {
@@ -230,69 +166,4 @@ fn show_client(s: Client) {
         Info::Unknown => print::text(b" -"),
     }
     print::close(false);
-}
-
-// The calls that have no payload; they are lent this slice.
-fn take_call(h: Host, command: u8, slice: &[u8]) -> Next
-    requires { ⌜ Lent h ⌝ }
-    ensures { λ r. ⌜ Lent (r .host) ⌝ }
-{
-    let s = h.client;
-    match command {
-        b'h' => called(h, s.handshake(slice)),
-        b'x' => called(h, s.end_of_input()),
-        b'r' => called(h, s.read(slice)),
-        b'w' => called(h, s.write(slice)),
-        b'f' => called(h, s.flush()),
-        _ => h.bad(),
-    }
-}
-
-// All that has no payload.
-fn take_bare(h: Host, command: u8, slice: &[u8]) -> Next
-    requires { ⌜ Lent h × Full (now slice) ⌝ }
-    ensures { λ r. ⌜ Lent (r .host) ⌝ }
-{
-    let m = h.slice;
-    match command {
-        b'C' => h.with_client(Client::new()).goes_on(),
-        b'b' => {
-            show_slice(&slice[0..m]);
-            h.goes_on()
-        }
-        b'q' => {
-            let s = h.client;
-            show_client(s);
-            h.goes_on()
-        }
-        _ => take_call(h, command, &slice[0..m]),
-    }
-}
-
-// Does what a record says that is for the client.
-pub fn obey(
-    h: Host,
-    command: u8,
-    payload: &[u8],
-    slice: &mut [u8],
-    before: &mut [u8],
-    room: &mut [u8],
-) -> Next
-    requires { ⌜ Lent h × (length (now payload) ≤ 262144) × Full (now slice) × Full (now before) ⌝ }
-    ensures { λ r. ⌜ Lent (r .host) ⌝ }
-{
-    match command {
-        b'B' => lend_slice(h, payload, slice),
-        b'c' => take_step(h, payload, slice, before, room),
-        b'k' => take_seek(h, payload),
-        b't' => take_number(h, command, payload),
-        b'z' => take_number(h, command, payload),
-        _ => {
-            if payload.len() == 0 {
-                take_bare(h, command, slice)
-            } else {
-                h.bad()
-            }
-        }
-    }
 }

@@ -1,95 +1,121 @@
 // Reads a script on standard input, makes the calls that it names, and writes a line for each call that answers.
 mod calling;
+mod command;
 mod host;
 mod print;
 mod record;
 mod room;
 mod serving;
 
+use command::Command;
+use command::Step;
 use host::Host;
-use host::Next;
+use host::LENT;
+use host::ROOM;
+use host::STILL;
 use record::Record;
+use room::Made;
 ghost use Prim.Native.Nat.{_≤_};
-ghost use lib.ListN.{length};
-ghost use Rattle.trace.specs.Buffers.{Full, Lent};
+ghost use Rattle.trace.specs.Buffers.{Fits, Lent, MadeIn, Room};
 
-// The longest payload, and so the longest table, image, slice and room.
-const LONGEST: usize = 262144;
-
-// Does what a record says: the server's commands by their letters, and all others.
-fn obey(
-    h: Host,
-    command: u8,
-    payload: &[u8],
-    table: &mut [u8],
-    image: &mut [u8],
-    slice: &mut [u8],
-    before: &mut [u8],
-    room: &mut [u8],
-) -> Next
-    requires { ⌜ Lent h × (length (now payload) ≤ 262144) × Full (now table) × Full (now image) × Full (now slice) × Full (now before) ⌝ }
-    ensures { λ r. ⌜ Lent (r .host) ⌝ }
+// A step of the client or of the server.
+fn made(h: Host, k: Step, still: &[u8; STILL], lent: &mut [u8; LENT], room: &mut [u8; ROOM]) -> Made
+    requires { ⌜ Lent h × Room k ⌝ }
+    ensures { λ r. ⌜ MadeIn k r ⌝ }
 {
-    match command {
-        b'T' | b'I' | b'S' | b's' | b'e' | b'o' | b'i' => serving::obey(
-            h,
-            command,
-            payload,
-            table,
-            image,
-            before,
-            room,
-        ),
-        _ => calling::obey(h, command, payload, slice, before, room),
+    if k.client {
+        calling::step(h, k, still, lent, room)
+    } else {
+        serving::step(h, k, still, lent, room)
+    }
+}
+
+// Makes a step, and writes its line.
+fn step(
+    h: Host,
+    k: Step,
+    still: &mut [u8; STILL],
+    lent: &mut [u8; LENT],
+    room: &mut [u8; ROOM],
+) -> Host
+    requires { ⌜ Lent h × Room k ⌝ }
+    ensures { λ r. ⌜ Lent r ⌝ }
+{
+    let p = h.part(k.client);
+    room::keep(p, lent, still);
+    room::clean(k.room, room);
+    let r = made(h, k, still, lent, room);
+    let m = r.moved;
+    let kept = room::kept(m, p, lent, still);
+    room::show(m, kept, k.room, room);
+    r.host
+}
+
+// Does what a record says, whose payload has been read.
+fn act(
+    h: Host,
+    c: Command,
+    still: &mut [u8; STILL],
+    lent: &mut [u8; LENT],
+    room: &mut [u8; ROOM],
+) -> Host
+    requires { ⌜ Lent h × Fits c ⌝ }
+    ensures { λ r. ⌜ Lent r ⌝ }
+{
+    match c {
+        Command::Change(k) => h.changed(k),
+        Command::Step(k) => step(h, k, still, lent, room),
+        Command::Call(k) => calling::call(h, k, lent),
+        Command::End => serving::end(h),
+        Command::Head(k) => {
+            serving::head(k, room);
+            h
+        }
+        Command::Show(k) => {
+            host::show(h, k, lent);
+            h
+        }
+        Command::Bad => h.bad(),
+    }
+}
+
+// Reads a payload to its place: the table, the image and the slice each have their own. Whether it is whole.
+fn store(letter: u8, size: usize, still: &mut [u8; STILL], lent: &mut [u8; LENT]) -> bool
+    requires { ⌜ size ≤ 262144 ⌝ }
+{
+    match letter {
+        b'T' => record::payload(still, host::second(), size),
+        b'I' => record::payload(lent, 0, size),
+        b'B' => record::payload(lent, host::second(), size),
+        _ => record::payload(still, 0, size),
     }
 }
 
 // Reads a record and does what it says.
-fn obey_next(
-    h: Host,
-    payload: &mut [u8],
-    table: &mut [u8],
-    image: &mut [u8],
-    slice: &mut [u8],
-    before: &mut [u8],
-    room: &mut [u8],
-) -> Next
-    requires { ⌜ Lent h × Full (now payload) × Full (now table) × Full (now image) × Full (now slice) × Full (now before) ⌝ }
-    ensures { λ r. ⌜ Lent (r .host) ⌝ }
+fn obey(h: Host, still: &mut [u8; STILL], lent: &mut [u8; LENT], room: &mut [u8; ROOM]) -> Host
+    requires { ⌜ Lent h ⌝ }
+    ensures { λ r. ⌜ Lent r ⌝ }
 {
-    match record::next(payload) {
-        Record::Whole { command, size } => obey(
-            h,
-            command,
-            &payload[0..size],
-            table,
-            image,
-            slice,
-            before,
-            room,
-        ),
+    match record::next() {
+        Record::Of { letter, size } => {
+            if store(letter, size, still, lent) {
+                act(h, command::read(letter, size, still), still, lent, room)
+            } else {
+                h.bad()
+            }
+        }
         Record::Bad => h.bad(),
         Record::Over => h.stops(),
     }
 }
 
 // A proved loop has to end, and nothing says that a script does: its turns count down from a number that no run uses up.
-fn obey_all(
-    payload: &mut [u8],
-    table: &mut [u8],
-    image: &mut [u8],
-    slice: &mut [u8],
-    before: &mut [u8],
-    room: &mut [u8],
-)
-    requires { ⌜ Full (now payload) × Full (now table) × Full (now image) × Full (now slice) × Full (now before) ⌝ }
-{
+fn obey_all(still: &mut [u8; STILL], lent: &mut [u8; LENT], room: &mut [u8; ROOM]) {
     let mut h = Host::new();
     let mut turns = u64::MAX;
     while turns > 0 {
-        let next = obey_next(h, payload, table, image, slice, before, room);
-        h = next.host;
-        if next.goes {
+        h = obey(h, still, lent, room);
+        if h.goes {
             turns -= 1;
         } else {
             turns = 0;
@@ -98,18 +124,8 @@ fn obey_all(
 }
 
 fn main() {
-    let mut payload = [0u8; LONGEST];
-    let mut table = [0u8; LONGEST];
-    let mut image = [0u8; LONGEST];
-    let mut slice = [0u8; LONGEST];
-    let mut before = [0u8; LONGEST];
-    let mut room = [0u8; LONGEST];
-    obey_all(
-        &mut payload,
-        &mut table,
-        &mut image,
-        &mut slice,
-        &mut before,
-        &mut room,
-    );
+    let mut still = [0u8; STILL];
+    let mut lent = [0u8; LENT];
+    let mut room = [0u8; ROOM];
+    obey_all(&mut still, &mut lent, &mut room);
 }

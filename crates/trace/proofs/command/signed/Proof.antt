@@ -2,8 +2,8 @@
 use native.Mathlib.Omega.{arith}
 use Rattle.trace.proofs.Twos.{low, high-fits, high}
 use borrow.Author.Needs.{needs}
-use Rattle.trace.proofs.calling.signed.Statement.{statement}
-use Rattle.trace.proofs.calling.signed.Tie as tie
+use Rattle.trace.proofs.command.signed.Statement.{statement}
+use Rattle.trace.proofs.command.signed.Tie as tie
 
 cast-result : tie.Need-cast-result
 cast-result c = search needs
