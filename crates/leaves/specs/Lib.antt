@@ -3,3 +3,4 @@ pub mod Row
 pub mod Draft
 pub mod Mark
 pub mod Names
+pub mod Part

@@ -5,6 +5,7 @@ mod draft;
 mod names;
 mod numbers;
 mod pairs;
+mod parts;
 mod say;
 mod tables;
 mod texts;

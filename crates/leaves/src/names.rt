@@ -1,5 +1,6 @@
 // Names, looked up in tables of two records and of 32: each name whole, then a byte at a time; then with a table that changes inside the name.
 use crate::draft;
+use crate::parts;
 use crate::say;
 use wire::lookup;
 use wire::lookup::Chosen;
@@ -14,11 +15,9 @@ ghost use Rattle.leaves.specs.Draft.{Added, named};
 ghost use Rattle.leaves.specs.Names.{found, changed};
 
 pub fn cases() {
-    equal_names();
-    empty_names();
-    first_parts();
-    all_records();
-    changing();
+    tables_of_two();
+    each_in_series(b"\x00\x01@\x01O\x01_\x01`\x02@A");
+    each_begun(b"\x02ab\x01x\x01x\x02ab\x02ab\x02ab\x03abc\x01x");
 }
 
 // ---- lookup
@@ -55,9 +54,8 @@ fn in_both(t: &[u8], u: &[u8]) -> Chosen
 fn shown(x: Chosen, t: &[u8]) {
     match x {
         Chosen::Export(k) => {
-            say::item(b"export ", k as u64);
             let e = table::export_at(t, k);
-            say::item(b" at ", e.start);
+            say::numbers(b"export # at #", k as u64, e.start, 0);
         }
         Chosen::Nothing => say::text(b"none"),
     }
@@ -70,7 +68,7 @@ fn looked_up(t: &[u8], name: &[u8]) {
     shown(whole(t, name), t);
     say::text(b", singly ");
     shown(singly(t, name), t);
-    say::line();
+    say::text(b"\n");
 }
 
 // A table of two records with these names, the windows at 1 and at 2.
@@ -118,60 +116,68 @@ fn change(a: &[u8], b: &[u8], c: &[u8], d: &[u8])
     names_of(c, d);
     say::text(b": ");
     shown(in_both(&first[..n], &second[..m]), &second[..m]);
-    say::line();
+    say::text(b"\n");
 }
 
 // ---- the cases: each of eight names in each table
-fn equal_names() {
-    of_two(b"a", b"a");
-    of_two(b"ab", b"ab");
-    of_two(b"", b"");
+fn tables_of_two() {
+    // equal names
+    of_each_two(b"\x01a\x01a\x02ab\x02ab\x00\x00");
+    // empty names
+    of_each_two(b"\x00\x01a\x01a\x00");
+    // a name that is the first part of the other
+    of_each_two(b"\x01a\x02ab\x02ab\x03abc\x03abc\x02ab");
 }
 
-fn empty_names() {
-    of_two(b"", b"a");
-    of_two(b"a", b"");
-}
-
-fn first_parts() {
-    of_two(b"a", b"ab");
-    of_two(b"ab", b"abc");
-    of_two(b"abc", b"ab");
+// Of each two names of a list.
+fn of_each_two(list: &[u8]) {
+    let mut at = 0;
+    while at < list.len() {
+        let p = parts::part_at(list, at, 3);
+        let q = parts::part_at(list, p.to, 3);
+        let a = p.from;
+        let b = p.to;
+        let c = q.from;
+        let d = q.to;
+        of_two(&list[a..b], &list[c..d]);
+        at = d;
+    }
 }
 
 fn of_two(a: &[u8], b: &[u8])
     requires { ⌜ (length (now a) ≤ 3) × (length (now b) ≤ 3) ⌝ }
 {
-    parts_of_abcd(a, b);
-    other_names(a, b);
+    each_in_table(
+        a,
+        b,
+        b"\x00\x01a\x02ab\x03abc\x04abcd\x01b\x02aB\x02\xFF\xFF",
+    );
 }
 
-fn parts_of_abcd(a: &[u8], b: &[u8])
+// Each name of a list, in the table of the names a and b.
+fn each_in_table(a: &[u8], b: &[u8], list: &[u8])
     requires { ⌜ (length (now a) ≤ 3) × (length (now b) ≤ 3) ⌝ }
 {
-    in_table(a, b, b"");
-    in_table(a, b, b"a");
-    in_table(a, b, b"ab");
-    in_table(a, b, b"abc");
-    in_table(a, b, b"abcd");
+    let mut at = 0;
+    while at < list.len() {
+        let p = parts::part_at(list, at, 255);
+        let from = p.from;
+        let to = p.to;
+        in_table(a, b, &list[from..to]);
+        at = to;
+    }
 }
 
-fn other_names(a: &[u8], b: &[u8])
-    requires { ⌜ (length (now a) ≤ 3) × (length (now b) ≤ 3) ⌝ }
-{
-    in_table(a, b, b"b");
-    in_table(a, b, b"aB");
-    in_table(a, b, b"\xFF\xFF");
-}
-
-// 32 records, named by the bytes 40 to 5F.
-fn all_records() {
-    of_series(b"");
-    of_series(b"@");
-    of_series(b"O");
-    of_series(b"_");
-    of_series(b"`");
-    of_series(b"@A");
+// Each name of a list, in 32 records that are named by the bytes 40 to 5F.
+fn each_in_series(list: &[u8]) {
+    let mut at = 0;
+    while at < list.len() {
+        let p = parts::part_at(list, at, 255);
+        let from = p.from;
+        let to = p.to;
+        of_series(&list[from..to]);
+        at = to;
+    }
 }
 
 fn of_series(name: &[u8]) {
@@ -183,35 +189,49 @@ fn of_series(name: &[u8]) {
 }
 
 // ---- the cases: each of seven tables after each
-fn changing() {
-    begun(b"ab", b"x");
-    begun(b"x", b"ab");
-    begun(b"ab", b"ab");
-    begun(b"abc", b"x");
+// Begun with each two names of a list.
+fn each_begun(list: &[u8]) {
+    let mut at = 0;
+    while at < list.len() {
+        let p = parts::part_at(list, at, 3);
+        let q = parts::part_at(list, p.to, 3);
+        let a = p.from;
+        let b = p.to;
+        let c = q.from;
+        let d = q.to;
+        begun(&list[a..b], &list[c..d]);
+        at = d;
+    }
 }
 
 fn begun(a: &[u8], b: &[u8])
     requires { ⌜ (length (now a) ≤ 3) × (length (now b) ≤ 3) ⌝ }
 {
-    then_longer(a, b);
-    then_shorter(a, b);
+    // longer names, and shorter ones
+    then_each(
+        a,
+        b,
+        b"\x02ab\x01x\x03abc\x01x\x02xb\x02ab\
+          \x01a\x02ab\x02aB\x01x\x01x\x02ab",
+    );
     then_none(a, b);
 }
 
-fn then_longer(a: &[u8], b: &[u8])
+// The second table is of each two names of a list.
+fn then_each(a: &[u8], b: &[u8], list: &[u8])
     requires { ⌜ (length (now a) ≤ 3) × (length (now b) ≤ 3) ⌝ }
 {
-    change(a, b, b"ab", b"x");
-    change(a, b, b"abc", b"x");
-    change(a, b, b"xb", b"ab");
-}
-
-fn then_shorter(a: &[u8], b: &[u8])
-    requires { ⌜ (length (now a) ≤ 3) × (length (now b) ≤ 3) ⌝ }
-{
-    change(a, b, b"a", b"ab");
-    change(a, b, b"aB", b"x");
-    change(a, b, b"x", b"ab");
+    let mut at = 0;
+    while at < list.len() {
+        let p = parts::part_at(list, at, 3);
+        let q = parts::part_at(list, p.to, 3);
+        let c = p.from;
+        let d = p.to;
+        let e = q.from;
+        let f = q.to;
+        change(a, b, &list[c..d], &list[e..f]);
+        at = f;
+    }
 }
 
 // The second table has no record.
@@ -222,6 +242,7 @@ fn then_none(a: &[u8], b: &[u8])
     let n = table_of(&mut room, a, b);
     begun_shown(a, b);
     say::text(b"none: ");
-    shown(in_both(&room[..n], b"\x01"), b"\x01");
-    say::line();
+    let none = b"\x01";
+    shown(in_both(&room[..n], none), none);
+    say::text(b"\n");
 }

@@ -21,12 +21,9 @@ pub fn cases() {
 
 // A line: the room after a field is written to it, and the number that is read there.
 fn shown(room: &[u8; 12], width: u64, at: usize, back: u64) {
-    say::item(b"field of ", width);
-    say::item(b" at ", at as u64);
-    say::text(b": ");
+    say::numbers(b"field of # at #: ", width, at as u64, 0);
     say::bytes(room);
-    say::item(b" reads ", back);
-    say::line();
+    say::number(b" reads #\n", back);
 }
 
 // ---- 2 bytes
@@ -116,32 +113,30 @@ fn clamps() {
 }
 
 fn clamp(x: u64) {
-    say::item(b"clamp ", x);
-    say::item(b": ", number::clamp_to_u32(x) as u64);
-    say::line();
+    say::numbers(b"clamp #: #\n", x, number::clamp_to_u32(x) as u64, 0);
 }
 
 // ---- checked_add_i64
 fn sums_down() {
-    add(b"5 + -5", 5, -5);
-    add(b"5 + -6", 5, -6);
-    add(b"0 + -1", 0, -1);
+    add(b"5 + -5: ", 5, -5);
+    add(b"5 + -6: ", 5, -6);
+    add(b"0 + -1: ", 0, -1);
     add(
-        b"2^63 + -2^63",
+        b"2^63 + -2^63: ",
         0x8000_0000_0000_0000,
         -0x8000_0000_0000_0000,
     );
     add(
-        b"2^63 + -(2^63-1)",
+        b"2^63 + -(2^63-1): ",
         0x8000_0000_0000_0000,
         -0x7FFF_FFFF_FFFF_FFFF,
     );
 }
 
 fn sums_up() {
-    add(b"2^64-1 + 0", 0xFFFF_FFFF_FFFF_FFFF, 0);
-    add(b"2^64-1 + 1", 0xFFFF_FFFF_FFFF_FFFF, 1);
-    add(b"0 + 2^63-1", 0, 0x7FFF_FFFF_FFFF_FFFF);
+    add(b"2^64-1 + 0: ", 0xFFFF_FFFF_FFFF_FFFF, 0);
+    add(b"2^64-1 + 1: ", 0xFFFF_FFFF_FFFF_FFFF, 1);
+    add(b"0 + 2^63-1: ", 0, 0x7FFF_FFFF_FFFF_FFFF);
 }
 
 fn add(sum: &[u8], p: u64, d: i64) {
@@ -149,8 +144,7 @@ fn add(sum: &[u8], p: u64, d: i64) {
     say::text(sum);
     let a = number::checked_add_i64(p, d);
     match a {
-        Added::Sum(n) => say::item(b": ", n),
-        Added::Outside => say::text(b": refused"),
+        Added::Sum(n) => say::number(b"#\n", n),
+        Added::Outside => say::text(b"refused\n"),
     }
-    say::line();
 }

@@ -103,20 +103,17 @@ fn row_of(a: u8) -> Row
 
 // A line for the first bytes `from` to `to`.
 fn shown(from: u16, to: u16, r: Row) {
-    say::item(b"first bytes ", from as u64);
-    say::item(b" to ", to as u64);
-    counts_shown(r);
+    say::numbers(b"first bytes # to #", from as u64, to as u64, 0);
+    say::numbers(
+        b": whole #, cut #, bad #",
+        r.whole as u64,
+        r.cut as u64,
+        r.bad as u64,
+    );
     if r.bad < 256 {
-        say::item(b"; not bad from ", r.first as u64);
-        say::item(b" to ", r.last as u64);
+        say::numbers(b"; not bad from # to #", r.first as u64, r.last as u64, 0);
     }
-    say::line();
-}
-
-fn counts_shown(r: Row) {
-    say::item(b": whole ", r.whole as u64);
-    say::item(b", cut ", r.cut as u64);
-    say::item(b", bad ", r.bad as u64);
+    say::text(b"\n");
 }
 
 pub fn cases() {

@@ -1,6 +1,7 @@
 // Tables and their first fault: 01's numbers 20 to 25, or 0. A line gives the table's length and its mark, by which the other side knows that
 // it judged the same bytes.
 use crate::draft;
+use crate::parts;
 use crate::say;
 use wire::table;
 use wire::table::Export;
@@ -11,10 +12,7 @@ ghost use Rattle.leaves.specs.Mark.{mark};
 
 pub fn cases() {
     versions();
-    cut_lengths();
     lengths();
-    lengths_of_a();
-    long_lengths();
     names();
     flags();
     windows();
@@ -41,12 +39,14 @@ fn mark(t: &[u8]) -> u64
 
 // The end of a line: the table, and the number of its first fault.
 fn judged(t: &[u8], image: usize) {
-    say::item(b": ", t.len() as u64);
-    say::item(b" bytes, mark ", mark(t));
-    say::item(b", image ", image as u64);
+    say::numbers(
+        b": # bytes, mark #, image #",
+        t.len() as u64,
+        mark(t),
+        image as u64,
+    );
     let fault = table::check(t, image).number();
-    say::item(b": ", fault as u64);
-    say::line();
+    say::number(b": #\n", fault as u64);
 }
 
 fn export(start: u64, size: u64, flags: u8) -> Export
@@ -61,11 +61,8 @@ fn export(start: u64, size: u64, flags: u8) -> Export
 
 // A record's length field, window, flags and name.
 fn record_shown(len: u16, x: Export, name: u8) {
-    say::item(b"length ", len as u64);
-    say::item(b", ", x.start);
-    say::item(b"+", x.size);
-    say::item(b", flags ", x.flags as u64);
-    say::text(b", name ");
+    say::numbers(b"length #, #+#", len as u64, x.start, x.size);
+    say::number(b", flags #, name ", x.flags as u64);
     say::byte(name);
 }
 
@@ -75,16 +72,40 @@ fn raw(t: &[u8]) {
     judged(t, 8);
 }
 
+// Each table of a list.
+fn each_raw(list: &[u8]) {
+    let mut at = 0;
+    while at < list.len() {
+        let p = parts::part_at(list, at, 255);
+        let from = p.from;
+        let to = p.to;
+        raw(&list[from..to]);
+        at = to;
+    }
+}
+
 // A record with the length field `len`.
 fn of_length(len: u16, name: &[u8])
     requires { ⌜ length (now name) ≤ 4097 ⌝ }
 {
-    say::item(b"table of a record of length ", len as u64);
-    say::item(b", name of ", name.len() as u64);
+    say::numbers(
+        b"table of a record of length #, name of #",
+        len as u64,
+        name.len() as u64,
+        0,
+    );
     let mut room = [0u8; 4200];
     let at = draft::add_version(&mut room);
     let end = draft::add_record(&mut room, at, len, export(0, 8, 0), name);
     judged(&room[..end], 8);
+}
+
+// The same, with a name of n letters.
+fn of_letters(len: u16, n: usize)
+    requires { ⌜ n ≤ 4097 ⌝ }
+{
+    let letters = [b'a'; 4097];
+    of_length(len, &letters[0..n]);
 }
 
 fn of_name(name: &[u8])
@@ -98,8 +119,21 @@ fn of_name(name: &[u8])
     judged(&room[..end], 8);
 }
 
+// A record of each name of a list.
+fn each_name(list: &[u8]) {
+    let mut at = 0;
+    while at < list.len() {
+        let p = parts::part_at(list, at, 100);
+        let from = p.from;
+        let to = p.to;
+        of_name(&list[from..to]);
+        at = to;
+    }
+}
+
 // One record, with a name of one byte.
-fn one(image: usize, len: u16, x: Export, name: u8) {
+fn one(image: usize, len: u16, start: u64, size: u64, flags: u8, name: u8) {
+    let x = export(start, size, flags);
     say::text(b"table of ");
     record_shown(len, x, name);
     let s = [name];
@@ -128,7 +162,9 @@ fn two(x: Export, a: u8, y: Export, b: u8) {
 fn last(k: u8, x: Export, tail: &[u8])
     requires { ⌜ (k ≤ 32) × (length (now tail) ≤ 1) ⌝ }
 {
-    last_shown(k, x, tail.len() as u64);
+    say::number(b"table of # records, ", k as u64);
+    record_shown(18, x, b'z');
+    say::number(b", stray bytes #", tail.len() as u64);
     let mut room = [0u8; 700];
     let a = draft::add_version(&mut room);
     let b = draft::add_series(&mut room, a, b'@', k);
@@ -137,107 +173,89 @@ fn last(k: u8, x: Export, tail: &[u8])
     judged(&room[..end], 8);
 }
 
-fn last_shown(k: u8, x: Export, stray: u64) {
-    say::item(b"table of ", k as u64);
-    say::text(b" records, ");
-    record_shown(18, x, b'z');
-    say::item(b", stray bytes ", stray);
+// The same, with so many stray bytes.
+fn stray(k: u8, x: Export, n: usize)
+    requires { ⌜ (k ≤ 32) × (n ≤ 1) ⌝ }
+{
+    let zero = [0u8; 1];
+    last(k, x, &zero[0..n]);
 }
 
-// ---- the version byte
+// ---- the version byte, and a length field that is cut
 fn versions() {
-    raw(b"");
-    raw(b"\x00");
-    raw(b"\x01");
-    raw(b"\x02");
-    raw(b"\x02\x00");
+    each_raw(b"\x00\x01\x00\x01\x01\x01\x02\x02\x02\x00");
+    each_raw(b"\x02\x01\x00\x02\x01\x11\x03\x01\x00\x11");
 }
 
 // ---- the length field
-fn cut_lengths() {
-    raw(b"\x01\x00");
-    raw(b"\x01\x11");
-    raw(b"\x01\x00\x11");
-}
-
 fn lengths() {
-    of_length(0, b"");
-    of_length(16, b"");
-    of_length(17, b"");
-    of_length(18, b"");
-}
-
-fn lengths_of_a() {
-    of_length(17, b"a");
-    of_length(18, b"a");
-    of_length(65535, b"a");
-}
-
-fn long_lengths() {
-    let letters = [b'a'; 4097];
-    of_length(4112, &letters[..4095]);
-    of_length(4113, &letters[..4095]);
-    of_length(4113, &letters[..4096]);
-    of_length(4114, &letters);
+    of_letters(0, 0);
+    of_letters(16, 0);
+    of_letters(17, 0);
+    of_letters(18, 0);
+    of_letters(17, 1);
+    of_letters(18, 1);
+    of_letters(65535, 1);
+    of_letters(4112, 4095);
+    of_letters(4113, 4095);
+    of_letters(4113, 4096);
+    of_letters(4114, 4097);
 }
 
 // ---- the name
 fn names() {
-    of_name(b"\xE2\x82\xAC");
-    of_name(b"\xED\xA0\x80");
-    of_name(b"\xC2");
-    of_name(b"\x61\xFF");
+    each_name(b"\x03\xE2\x82\xAC\x03\xED\xA0\x80\x01\xC2\x02\x61\xFF");
 }
 
 // ---- the flags
 fn flags() {
-    one(8, 18, export(0, 8, 15), b'a');
-    one(8, 18, export(0, 8, 16), b'a');
-    one(8, 18, export(0, 8, 255), b'a');
+    one(8, 18, 0, 8, 15, b'a');
+    one(8, 18, 0, 8, 16, b'a');
+    one(8, 18, 0, 8, 255, b'a');
 }
 
 // ---- the window
 fn windows() {
-    one(8, 18, export(0, 8, 0), b'a');
-    one(8, 18, export(0, 9, 0), b'a');
-    one(8, 18, export(3, 5, 0), b'a');
-    one(8, 18, export(3, 6, 0), b'a');
-    one(8, 18, export(8, 0, 0), b'a');
-    one(8, 18, export(9, 0, 0), b'a');
-    one(0, 18, export(0, 0, 0), b'a');
-    one(0, 18, export(0, 1, 0), b'a');
+    one(8, 18, 0, 8, 0, b'a');
+    one(8, 18, 0, 9, 0, b'a');
+    one(8, 18, 3, 5, 0, b'a');
+    one(8, 18, 3, 6, 0, b'a');
+    one(8, 18, 8, 0, 0, b'a');
+    one(8, 18, 9, 0, 0, b'a');
+    one(0, 18, 0, 0, 0, b'a');
+    one(0, 18, 0, 1, 0, b'a');
 }
 
 // Sums of 2^64 and about.
 fn great_windows() {
     let most = 0xFFFF_FFFF_FFFF_FFFF;
     let half = 0x8000_0000_0000_0000;
-    one(8, 18, export(most, 0, 0), b'a');
-    one(8, 18, export(0, most, 0), b'a');
-    one(8, 18, export(most, 1, 0), b'a');
-    one(8, 18, export(1, most, 0), b'a');
-    one(8, 18, export(half, half, 0), b'a');
-    one(8, 18, export(most, 9, 0), b'a');
-    one(8, 18, export(most, most, 0), b'a');
+    one(8, 18, most, 0, 0, b'a');
+    one(8, 18, 0, most, 0, b'a');
+    one(8, 18, most, 1, 0, b'a');
+    one(8, 18, 1, most, 0, b'a');
+    one(8, 18, half, half, 0, b'a');
+    one(8, 18, most, 9, 0, b'a');
+    one(8, 18, most, most, 0, b'a');
 }
 
 // ---- the number of records
 fn counts() {
     let sound = export(0, 8, 0);
-    last(0, sound, b"\x00");
-    last(30, sound, b"\x00");
-    last(31, sound, b"");
-    last(31, sound, b"\x00");
-    last(32, sound, b"");
+    stray(0, sound, 1);
+    stray(30, sound, 1);
+    stray(31, sound, 0);
+    stray(31, sound, 1);
+    stray(32, sound, 0);
 }
 
 fn faulty_last() {
     let odd = export(0, 8, 16);
     let past = export(1, 8, 0);
-    last(0, past, b"\x00");
-    last(31, odd, b"");
-    last(31, odd, b"\x00");
-    last(32, odd, b"");
+    stray(0, past, 1);
+    stray(31, odd, 0);
+    stray(31, odd, 1);
+    stray(32, odd, 0);
 }
 
 // ---- the first fault
@@ -253,21 +271,21 @@ fn orders_of_two() {
 }
 
 fn orders_in_one() {
-    let past = export(1, 8, 0);
-    let both = export(1, 8, 16);
-    one(8, 18, both, 0x80);
-    one(8, 18, past, 0x80);
-    one(8, 18, both, b'a');
-    one(8, 16, both, 0x80);
+    one(8, 18, 1, 8, 16, 0x80);
+    one(8, 18, 1, 8, 0, 0x80);
+    one(8, 18, 1, 8, 16, b'a');
+    one(8, 16, 1, 8, 16, 0x80);
 }
 
 // ---- the flags that the server sends, for each of the 16
+fn sent_for(f: u8) {
+    say::numbers(b"flags #: #\n", f as u64, table::wire_flags(f) as u64, 0);
+}
+
 fn wire_flags() {
     let mut f: u8 = 0;
     while f < 16 {
-        say::item(b"flags ", f as u64);
-        say::item(b": ", table::wire_flags(f) as u64);
-        say::line();
+        sent_for(f);
         f += 1;
     }
 }

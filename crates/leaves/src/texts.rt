@@ -1,4 +1,5 @@
 // Texts: each whole, then a byte at a time, then in two parts cut at each place from before the first byte to behind the last.
+use crate::parts;
 use crate::say;
 use wire::utf8::Utf8;
 ghost use mathlib.Core.Path.{_≡_};
@@ -30,99 +31,41 @@ pub fn stands(u: Utf8) -> Standing
 }
 
 pub fn cases() {
-    examples();
-    one_byte();
-    two_bytes();
-    three_bytes();
-    surrogates();
-    four_bytes();
-    past_the_last();
-    cut_short();
-    cut_behind();
-    no_lead();
-    no_tail();
+    // RFC 3629, section 7, and the empty text
+    each(
+        b"\x00\x07\x41\xE2\x89\xA2\xCE\x91\x2E\x09\xED\x95\x9C\xEA\xB5\xAD\xEC\x96\xB4\x09\xE6\x97\xA5\xE6\x9C\xAC\xE8\xAA\x9E\x07\xEF\xBB\xBF\xF0\xA3\x8E\xB4",
+    );
+    // the first and the last of each range, and what is just outside it
+    each(
+        b"\x01\x00\x01\x7F\x01\x80\x01\xBF\
+          \x02\xC0\x80\x02\xC0\xAF\x02\xC1\xBF\x02\xC2\x80\x02\xDF\xBF\
+          \x03\xE0\x80\x80\x03\xE0\x9F\xBF\x03\xE0\xA0\x80\x03\xEE\x80\x80\x03\xEF\xBF\xBF\
+          \x03\xED\x9F\xBF\x03\xED\xA0\x80\x03\xED\xBF\xBF\
+          \x04\xF0\x80\x80\x80\x04\xF0\x8F\xBF\xBF\x04\xF0\x90\x80\x80\x04\xF3\xBF\xBF\xBF\
+          \x04\xF4\x8F\xBF\xBF\x04\xF4\x90\x80\x80\x04\xF5\x80\x80\x80\x01\xFE\x01\xFF",
+    );
+    // characters without their last byte
+    each(
+        b"\x01\xC2\x01\xE2\x02\xE2\x82\x02\xED\xA0\
+          \x01\xF0\x02\xF0\x9F\x03\xF0\x9F\x98\x03\x41\xE2\x89",
+    );
+    // a byte that stands in no text, or not there
+    each(
+        b"\x03\xC2\x80\x80\x09\x67\x6F\x6F\x64\xFF\x67\x6F\x6F\x64\x0C\x67\x6F\x6F\x64\xE2\x82\xAC\x80\x67\x6F\x6F\x64\
+          \x02\xC2\x41\x03\xE2\x82\x41\x04\xF0\x9F\x98\x41",
+    );
 }
 
-// RFC 3629, section 7, and the empty text.
-fn examples() {
-    text(b"");
-    text(b"\x41\xE2\x89\xA2\xCE\x91\x2E");
-    text(b"\xED\x95\x9C\xEA\xB5\xAD\xEC\x96\xB4");
-    text(b"\xE6\x97\xA5\xE6\x9C\xAC\xE8\xAA\x9E");
-    text(b"\xEF\xBB\xBF\xF0\xA3\x8E\xB4");
-}
-
-// ---- the first and the last of each range, and what is just outside it
-fn one_byte() {
-    text(b"\x00");
-    text(b"\x7F");
-    text(b"\x80");
-    text(b"\xBF");
-}
-
-fn two_bytes() {
-    text(b"\xC0\x80");
-    text(b"\xC0\xAF");
-    text(b"\xC1\xBF");
-    text(b"\xC2\x80");
-    text(b"\xDF\xBF");
-}
-
-fn three_bytes() {
-    text(b"\xE0\x80\x80");
-    text(b"\xE0\x9F\xBF");
-    text(b"\xE0\xA0\x80");
-    text(b"\xEE\x80\x80");
-    text(b"\xEF\xBF\xBF");
-}
-
-fn surrogates() {
-    text(b"\xED\x9F\xBF");
-    text(b"\xED\xA0\x80");
-    text(b"\xED\xBF\xBF");
-}
-
-fn four_bytes() {
-    text(b"\xF0\x80\x80\x80");
-    text(b"\xF0\x8F\xBF\xBF");
-    text(b"\xF0\x90\x80\x80");
-    text(b"\xF3\xBF\xBF\xBF");
-}
-
-fn past_the_last() {
-    text(b"\xF4\x8F\xBF\xBF");
-    text(b"\xF4\x90\x80\x80");
-    text(b"\xF5\x80\x80\x80");
-    text(b"\xFE");
-    text(b"\xFF");
-}
-
-// ---- characters without their last byte
-fn cut_short() {
-    text(b"\xC2");
-    text(b"\xE2");
-    text(b"\xE2\x82");
-    text(b"\xED\xA0");
-}
-
-fn cut_behind() {
-    text(b"\xF0");
-    text(b"\xF0\x9F");
-    text(b"\xF0\x9F\x98");
-    text(b"\x41\xE2\x89");
-}
-
-// ---- a byte that stands in no text, or not there
-fn no_lead() {
-    text(b"\xC2\x80\x80");
-    text(b"\x67\x6F\x6F\x64\xFF\x67\x6F\x6F\x64");
-    text(b"\x67\x6F\x6F\x64\xE2\x82\xAC\x80\x67\x6F\x6F\x64");
-}
-
-fn no_tail() {
-    text(b"\xC2\x41");
-    text(b"\xE2\x82\x41");
-    text(b"\xF0\x9F\x98\x41");
+// Each text of a list.
+fn each(list: &[u8]) {
+    let mut at = 0;
+    while at < list.len() {
+        let p = parts::part_at(list, at, 255);
+        let from = p.from;
+        let to = p.to;
+        text(&list[from..to]);
+        at = to;
+    }
 }
 
 // A line for the text v.
@@ -135,7 +78,7 @@ fn text(v: &[u8]) {
     named(stands(singly(v)));
     say::text(b", in two");
     each_cut(v);
-    say::line();
+    say::text(b"\n");
 }
 
 fn named(s: Standing) {

@@ -5,37 +5,16 @@ use Rattle.leaves.proofs.tables.wire_flags.Statement.{statement}
 use Rattle.leaves.proofs.tables.wire_flags.Tie as tie
 
 abbrev Inv-loop : tie.InvT-loop
-Inv-loop f₀ t2 t3 f = f ≤ 16
+Inv-loop f₀ f = f ≤ 16
 
 abbrev μ-loop : tie.MeasureT-loop
-μ-loop f₀ t2 t3 f = 16 - f
+μ-loop f₀ f = 16 - f
 
 loop-holds : tie.Need-loop-holds Inv-loop μ-loop
 loop-holds c = search needs
 
-slice-aggregate-item : tie.Need-slice-aggregate-item Inv-loop μ-loop
-slice-aggregate-item c = search needs
-
-cast-item : tie.Need-cast-item Inv-loop μ-loop
-cast-item c = search needs
-
-item-requires : tie.Need-item-requires Inv-loop μ-loop
-item-requires c κs = search needs
-
-slice-aggregate-item-2 : tie.Need-slice-aggregate-item-2 Inv-loop μ-loop
-slice-aggregate-item-2 c = search needs
-
-wire-flags-requires : tie.Need-wire-flags-requires Inv-loop μ-loop
-wire-flags-requires c κs = search needs
-
-cast-item-2 : tie.Need-cast-item-2 Inv-loop μ-loop
-cast-item-2 c = search needs
-
-item-requires-2 : tie.Need-item-requires-2 Inv-loop μ-loop
-item-requires-2 c κs = search needs
-
-line-requires : tie.Need-line-requires Inv-loop μ-loop
-line-requires c κs = search needs
+sent-for-requires : tie.Need-sent-for-requires Inv-loop μ-loop
+sent-for-requires c κs = search needs
 
 add-f : tie.Need-add-f Inv-loop μ-loop
 add-f c = search needs
@@ -56,14 +35,7 @@ wire-flags-spec =
     Inv-loop
     μ-loop
     loop-holds
-    slice-aggregate-item
-    cast-item
-    item-requires
-    slice-aggregate-item-2
-    wire-flags-requires
-    cast-item-2
-    item-requires-2
-    line-requires
+    sent-for-requires
     add-f
     loop-less
     loop-again
