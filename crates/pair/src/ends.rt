@@ -89,13 +89,15 @@ impl Ends {
 
     fn server_moves(
         self,
-        table: &[u8],
-        image: &mut [u8],
+        image: &mut [u8; 64],
         up: &mut [u8],
         down: &mut [u8],
         piece: usize,
         room: usize,
     ) -> After {
+        // version 1; start 8, size 32, flags 0, `labels`
+        let table =
+            b"\x01\x00\x17\x00\x00\x00\x00\x00\x00\x00\x08\x00\x00\x00\x00\x00\x00\x00\x20\x00labels";
         let s = self.server;
         let r = joined::server_move(s, table, image, up, self.ups, down, self.downs, piece, room);
         let step = r.step;
@@ -119,19 +121,12 @@ impl Ends {
     }
 
     // One move, as the schedule says.
-    fn moves(
-        self,
-        lent: &mut [u8],
-        table: &[u8],
-        image: &mut [u8],
-        up: &mut [u8],
-        down: &mut [u8],
-    ) -> After {
+    fn moves(self, lent: &mut [u8], image: &mut [u8; 64], up: &mut [u8], down: &mut [u8]) -> After {
         let c = schedule::chosen(self.schedule);
         if c.client {
             self.client_moves(lent, up, down, c.piece, c.room)
         } else {
-            self.server_moves(table, image, up, down, c.piece, c.room)
+            self.server_moves(image, up, down, c.piece, c.room)
         }
     }
 }
@@ -150,8 +145,7 @@ fn is_open(o: Outcome) -> bool {
 pub fn close(
     a: After,
     lent: &mut [u8],
-    table: &[u8],
-    image: &mut [u8],
+    image: &mut [u8; 64],
     up: &mut [u8],
     down: &mut [u8],
 ) -> After {
@@ -163,7 +157,7 @@ pub fn close(
             break;
         }
         let e = now.ends;
-        now = e.moves(lent, table, image, up, down);
+        now = e.moves(lent, image, up, down);
         left -= 1;
     }
     now

@@ -8,39 +8,32 @@ mod script;
 use ends::After;
 use ends::Ends;
 use script::Call;
+ghost use mathlib.Core.Path.{_≡_};
 ghost use Prim.Native.Nat.{_≤_, _<_};
+ghost use lib.ListN.{length};
 
 // Makes the call with what is lent, moves until it is closed, and writes how it went.
 fn closes(
     e: Ends,
     k: Call,
     lent: &mut [u8],
-    image: &mut [u8],
+    image: &mut [u8; 64],
     up: &mut [u8],
     down: &mut [u8],
 ) -> Ends {
-    // version 1; start 8, size 32, flags 0, `labels`
-    let table =
-        b"\x01\x00\x17\x00\x00\x00\x00\x00\x00\x00\x08\x00\x00\x00\x00\x00\x00\x00\x20\x00labels";
     let c = e.client;
     let r = script::make(k, c, lent);
     let client = r.state;
     let outcome = r.outcome;
-    let a = After {
-        ends: e.with_client(client),
-        outcome,
-    };
-    let closed = ends::close(a, lent, table, image, up, down);
+    let ends = e.with_client(client);
+    let closed = ends::close(After { ends, outcome }, lent, image, up, down);
     let o = closed.outcome;
-    print::word(k);
-    print::outcome(o);
-    print::bytes(lent);
-    print::text(b"\n");
+    print::call(k, o, lent);
     closed.ends
 }
 
 // The i-th call.
-fn call(e: Ends, i: u8, image: &mut [u8], up: &mut [u8], down: &mut [u8]) -> Ends {
+fn call(e: Ends, i: u8, image: &mut [u8; 64], up: &mut [u8], down: &mut [u8]) -> Ends {
     let k = script::nth(i);
     let n = script::lent(k);
     let mut buffer = [0u8; 40];
@@ -48,7 +41,7 @@ fn call(e: Ends, i: u8, image: &mut [u8], up: &mut [u8], down: &mut [u8]) -> End
     closes(e, k, &mut buffer[0..n], image, up, down)
 }
 
-fn calls(e: Ends, image: &mut [u8], up: &mut [u8], down: &mut [u8]) -> Ends {
+fn calls(e: Ends, image: &mut [u8; 64], up: &mut [u8], down: &mut [u8]) -> Ends {
     let mut ends = e;
     let mut i = 0;
     while i < script::CALLS {
@@ -77,25 +70,32 @@ fn checksum(bytes: &[u8]) -> u64 {
     b * 65536 + a
 }
 
+// The image after a run, and the bytes carried.
+fn shown(e: Ends, image: &[u8; 64]) {
+    print::text(b"image");
+    print::bytes(image);
+    print::numbers(b" #\n", checksum(image), 0, 0, 0);
+    print::carried(e);
+}
+
+// A run with so many bytes of these wires.
+fn run_on(capacity: usize, kind: u8, up: &mut [u8], down: &mut [u8])
+    requires { ⌜ (capacity ≤ 4096) × (length (now up) ≡ 4096) × (length (now down) ≡ 4096) ⌝ }
+{
+    let mut image = *b"<before>ASPIRIN HEPARIN INSULIN DIGOXIN <24 bytes stand behind.>";
+    let e = ends::fresh(kind);
+    let last = calls(e, &mut image, &mut up[0..capacity], &mut down[0..capacity]);
+    shown(last, &image);
+}
+
 // A run with wires of this capacity.
 fn run(capacity: usize, kind: u8)
     requires { ⌜ capacity ≤ 4096 ⌝ }
 {
+    print::numbers(b"wires of #, order #\n", capacity as u64, kind as u64, 0, 0);
     let mut up = [0u8; 4096];
     let mut down = [0u8; 4096];
-    let mut image = *b"<before>ASPIRIN HEPARIN INSULIN DIGOXIN <24 bytes stand behind.>";
-    print::text(b"wires of");
-    print::number(capacity as u64);
-    print::text(b", order");
-    print::number(kind as u64);
-    print::text(b"\n");
-    let e = ends::fresh(kind);
-    let last = calls(e, &mut image, &mut up[0..capacity], &mut down[0..capacity]);
-    print::text(b"image");
-    print::bytes(&image);
-    print::number(checksum(&image));
-    print::text(b"\n");
-    print::carried(last);
+    run_on(capacity, kind, &mut up, &mut down);
 }
 
 fn orders(capacity: usize)

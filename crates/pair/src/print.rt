@@ -10,18 +10,33 @@ pub fn text(s: &[u8]) {
     io::write_all(STDOUT_FILENO, s);
 }
 
+// A text in which each # stands for a number: a, then b, then c, then d.
+pub fn numbers(shape: &[u8], a: u64, b: u64, c: u64, d: u64) {
+    let mut first = a;
+    let mut second = b;
+    let mut third = c;
+    let mut i = 0;
+    while i < shape.len() {
+        let next = i + 1;
+        if shape[i] == b'#' {
+            io::print_decimal(STDOUT_FILENO, first);
+            first = second;
+            second = third;
+            third = d;
+        } else {
+            text(&shape[i..next]);
+        }
+        i = next;
+    }
+}
+
 // A space and the number.
-pub fn number(n: u64) {
-    text(b" ");
-    io::print_decimal(STDOUT_FILENO, n);
+fn number(n: u64) {
+    numbers(b" #", n, 0, 0, 0);
 }
 
 fn bit(b: bool) {
-    if b {
-        text(b" 1");
-    } else {
-        text(b" 0");
-    }
+    number(b as u64);
 }
 
 fn fields(f: Fields) {
@@ -32,7 +47,7 @@ fn fields(f: Fields) {
     bit(f.send_flush);
 }
 
-pub fn word(c: Call) {
+fn word(c: Call) {
     match c {
         Call::Handshake => text(b"handshake"),
         Call::Read(_) => text(b"read"),
@@ -55,25 +70,16 @@ fn value(v: Value) {
     }
 }
 
-pub fn outcome(o: Outcome) {
+fn outcome(o: Outcome) {
     match o {
         Outcome::Open => text(b" open"),
         Outcome::Succeeded(v) => {
             text(b" ok");
             value(v);
         }
-        Outcome::Failed(error) => {
-            text(b" fail 47");
-            number(error as u64);
-        }
-        Outcome::Ended(n) => {
-            text(b" end");
-            number(n as u64);
-        }
-        Outcome::Refused(n) => {
-            text(b" no");
-            number(n as u64);
-        }
+        Outcome::Failed(error) => numbers(b" fail 47 #", error as u64, 0, 0, 0),
+        Outcome::Ended(n) => numbers(b" end #", n as u64, 0, 0, 0),
+        Outcome::Refused(n) => numbers(b" no #", n as u64, 0, 0, 0),
     }
 }
 
@@ -84,12 +90,20 @@ pub fn bytes(b: &[u8]) {
     text(b"]");
 }
 
-pub fn carried(e: Ends) {
-    text(b"up");
-    number(e.client_gave);
-    number(e.server_took);
-    text(b" down");
-    number(e.server_gave);
-    number(e.client_took);
+// The line of a call: how it went, and what was lent.
+pub fn call(k: Call, o: Outcome, lent: &[u8]) {
+    word(k);
+    outcome(o);
+    bytes(lent);
     text(b"\n");
+}
+
+pub fn carried(e: Ends) {
+    numbers(
+        b"up # # down # #\n",
+        e.client_gave,
+        e.server_took,
+        e.server_gave,
+        e.client_took,
+    );
 }

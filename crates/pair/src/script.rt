@@ -4,7 +4,7 @@ use client::state::Client;
 use client::state::SeekFrom;
 use machine::copy;
 ghost use mathlib.Core.Path.{_≡_};
-ghost use Prim.Native.Nat.{_≤_};
+ghost use Prim.Native.Nat.{_+_, _≤_};
 ghost use lib.ListN.{length};
 
 pub enum Call {
@@ -55,18 +55,38 @@ pub fn lent(c: Call) -> usize
     }
 }
 
+// So many bytes of a text, from a place on.
+struct Word {
+    from: usize,
+    size: usize,
+}
+
+// The word of the i-th call, in the text of `fill`.
+fn spoken(i: u8) -> Word
+    ensures { λ r. ⌜ (r .from + r .size ≤ 32) × (r .size ≤ 8) ⌝ }
+{
+    match i {
+        0 => Word { from: 0, size: 6 },
+        2 => Word { from: 8, size: 8 },
+        6 => Word { from: 16, size: 8 },
+        10 => Word { from: 24, size: 8 },
+        _ => Word { from: 0, size: 0 },
+    }
+}
+
 // What the buffer holds before the i-th call: the name, a label to be written, or dots.
 pub fn fill(i: u8, buffer: &mut [u8])
     requires { ⌜ length (now buffer) ≡ 40 ⌝ }
 {
     copy::copy(b"........................................", buffer);
-    match i {
-        0 => copy::copy_part(b"labels", 0, buffer, 0, 6),
-        2 => copy::copy_part(b"WARFARIN", 0, buffer, 0, 8),
-        6 => copy::copy_part(b"MORPHINE", 0, buffer, 0, 8),
-        10 => copy::copy_part(b"CODEINE ", 0, buffer, 0, 8),
-        _ => (),
-    }
+    let w = spoken(i);
+    copy::copy_part(
+        b"labels  WARFARINMORPHINECODEINE ",
+        w.from,
+        buffer,
+        0,
+        w.size,
+    );
 }
 
 pub fn make(k: Call, c: Client, buffer: &[u8]) -> Called {
