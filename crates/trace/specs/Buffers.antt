@@ -6,7 +6,7 @@
 --   Room      a step's room and input lie in their buffers
 --   Fits      so does all that a command asks for
 --   MadeIn    a step gave no more than its room, and left what is lent in its buffers
-use Prim.Native.Nat.{ℕ, _+_, _≤_}
+use Prim.Native.Nat.{_+_, _≤_}
 use Rattle.trace.specs.declared.record.Record.{Record}
 use Rattle.trace.specs.declared.record.Record.the-variants.{Of, Bad, Over}
 use Rattle.trace.specs.declared.host.Host.{Host}
