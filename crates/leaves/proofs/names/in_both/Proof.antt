@@ -1,9 +1,6 @@
--- Each number has the digits of its set, and the second byte narrows what the first has left.
-use mathlib.Core.List.{[], _∷_}
+-- The second byte narrows what the first has left.
 use borrow.Author.Needs.{needs}
-use Rattle.wire.specs.Table.{records}
 use Rattle.leaves.specs.Names.{changed}
-use Rattle.leaves.proofs.Sets.{started-set, narrowed-set}
 use Rattle.leaves.proofs.names.in_both.Statement.{statement}
 use Rattle.leaves.proofs.names.in_both.Tie as tie
 
@@ -28,14 +25,11 @@ lowest-requires c κs = search needs
 returns : tie.Need-returns
 unfolding changed
 returns c =
-    let a = c .before .before .before .before .before .before .before .before .args in
-    let rs = records (a .t .now) in
-    let ss = records (a .u .now) in
     rw (
       c .lowest .ensures,
-      narrowed-set ss 1 (0x62 ∷ []) _ (c .before .narrowed2 .ensures),
-      narrowed-set rs 0 (0x61 ∷ []) _ (c .before .before .before .narrowed .ensures),
-      started-set rs 2 (c .before .before .before .before .before .started .ensures),
+      c .before .narrowed2 .ensures,
+      c .before .before .before .narrowed .ensures,
+      c .before .before .before .before .before .started .ensures,
     )
 
 pub in-both-spec : {M : Type 1} → statement M

@@ -4,17 +4,17 @@ use mathlib.Core.Path.{_≡_, _∙_}
 use native.Mathlib.Omega.{arith}
 use lib.ListN.{length, drop, drop-of-length-le}
 use borrow.Author.Needs.{needs}
-use Rattle.wire.specs.Lookup.{started, narrowedBy, bits}
+use Rattle.wire.specs.Lookup.{started, narrowedBy, setOf}
 use Rattle.wire.specs.Table.{records}
 use Rattle.leaves.specs.Names.{found}
-use Rattle.leaves.proofs.Sets.{started-set, narrowed-turn}
+use Rattle.leaves.proofs.Sets.{narrowed-turn}
 use Rattle.leaves.proofs.names.singly.Statement.{statement}
 use Rattle.leaves.proofs.names.singly.Tie as tie
 
 abbrev Inv-loop : tie.InvT-loop
 Inv-loop t name set₀ i₀ set i =
     (i ≤ length name)
-    × (narrowedBy (records t) i (drop i name) (bits 32 set) ≡ narrowedBy (records t) 0 name (started (records t) (length name)))
+    × (narrowedBy (records t) i (drop i name) (setOf set) ≡ narrowedBy (records t) 0 name (started (records t) (length name)))
 
 abbrev μ-loop : tie.MeasureT-loop
 μ-loop t name set₀ i₀ set i = length name - i
@@ -24,8 +24,7 @@ started-requires c κs = search needs
 
 loop-holds : tie.Need-loop-holds Inv-loop μ-loop
 loop-holds c =
-    let a = c .before .before .before .args in
-    (omega arith, rw (started-set (records (a .t .now)) (length (a .name .now)) (c .started .ensures)))
+    (omega arith, rw (c .started .ensures))
 
 add-next : tie.Need-add-next Inv-loop μ-loop
 add-next c = search needs
@@ -49,7 +48,7 @@ loop-again : tie.Need-loop-again Inv-loop μ-loop
 loop-again c =
     let a = c .before .before .before .before .before .before .before .args in
     let l = c .before .before .before .loop in
-    (omega arith, narrowed-turn (records (a .t .now)) (a .name .now) (l .i) (l .set) (omega arith) (c .narrowed .ensures) ∙ l .inv .1)
+    (omega arith, narrowed-turn (records (a .t .now)) (a .name .now) (l .i) (setOf (l .set)) (omega arith) (c .narrowed .ensures) ∙ l .inv .1)
 
 lowest-requires : tie.Need-lowest-requires Inv-loop μ-loop
 lowest-requires c κs = search needs
