@@ -1,4 +1,4 @@
--- What the phases of the handshake owe.
+-- What the phases of the handshake owe. Only contracts inside the crate cite it: what a byte of it is, Session says.
 --   replyOf p      the reply that is owed, as it stands before the first of its bytes is given
 --   leftOf p       how many of its bytes are owed still
 --   withLeft p n   the state where so many are
