@@ -1,12 +1,35 @@
 #!/usr/bin/env python3
-"""Writes what crates/leaves has to write: the file crates/leaves/stdout is this script's output, and
+"""Writes the cases that crates/leaves reads and the lines that it has to write: the files crates/leaves/stdin and crates/leaves/stdout are
+this script's output, and
 
-    python3 compare/leaves.py | diff - crates/leaves/stdout
+    python3 compare/leaves.py stdin | cmp - crates/leaves/stdin
+    python3 compare/leaves.py stdout | cmp - crates/leaves/stdout
 
-says nothing. It is made without the program. Numbers on the wire are Python's own int.to_bytes and int.from_bytes, UTF-8 is Python's own
+say nothing. Both are made without the program. Numbers on the wire are Python's own int.to_bytes and int.from_bytes, UTF-8 is Python's own
 strict decoder, and the rules of the export table, of the lookup and of the client's sums are read here from document 01, whose words stand
-beside them. The gate does not run this script; it runs the program and compares what that writes with the file."""
+beside them. The gate does not run this script; it runs the program and compares what that writes with the file.
+
+A case is a letter, two numbers x and y and a payload. Its record is the letter (1 byte), x (8), y (8), the payload's size (2) and the payload;
+its line is the letter, x, y and the payload in hex, then a colon and the answer:
+
+    2, 4, 8   the number x in a field of 2, 4 or 8 bytes at the place y of 12 bytes EE: these bytes, and the number that is read there
+    c         the number x, clamped as u64 and as usize
+    a         the position x and the offset y (in two's complement): their sum or `refused`
+    u         a text: w (whole), c (cut) or b (bad); the same for it in single bytes; and in two parts, cut at each place
+    p         the texts of the first byte x and each of the 256 second bytes: a letter for each
+    t         a table and an image of x bytes: the number of the first fault, or 0
+    w         the table's flags x: the flags that the server sends
+    n         a table of x bytes and a name: the export's number and start or `none`; the same for the name in single bytes
+    d         a table of x bytes and another: what the name "ab" finds, begun and its "a" taken with the one, its "b" with the other"""
 import codecs
+import sys
+
+CASES = []
+
+
+def case(letter, answer, x=0, y=0, payload=b""):
+    CASES.append((letter, x, y, payload, answer))
+
 
 # ---- numbers: "All numbers are big-endian"
 
@@ -19,12 +42,13 @@ def fields():
                 room = bytearray(b"\xee" * 12)
                 room[at : at + width] = x.to_bytes(width, "big")
                 back = int.from_bytes(room[at : at + width], "big")
-                print(f"field of {width} at {at}: {room.hex()} reads {back}")
+                case(str(width), f"{room.hex()} {back}", x, at)
 
 
 def clamps():
     for x in (0, 2**32 - 1, 2**32, 2**64 - 1):
-        print(f"clamp {x}: {min(x, 2**32 - 1)}")
+        least = min(x, 2**32 - 1)
+        case("c", f"{least} {least}", x)
 
 
 def added(p, d):
@@ -35,17 +59,17 @@ def added(p, d):
 
 
 def sums():
-    for what, p, d in (
-        ("5 + -5", 5, -5),
-        ("5 + -6", 5, -6),
-        ("0 + -1", 0, -1),
-        ("2^63 + -2^63", 2**63, -(2**63)),
-        ("2^63 + -(2^63-1)", 2**63, -(2**63 - 1)),
-        ("2^64-1 + 0", 2**64 - 1, 0),
-        ("2^64-1 + 1", 2**64 - 1, 1),
-        ("0 + 2^63-1", 0, 2**63 - 1),
+    for p, d in (
+        (5, -5),
+        (5, -6),
+        (0, -1),
+        (2**63, -(2**63)),
+        (2**63, -(2**63 - 1)),
+        (2**64 - 1, 0),
+        (2**64 - 1, 1),
+        (0, 2**63 - 1),
     ):
-        print(f"add {what}: {added(p, d)}")
+        case("a", added(p, d), p, d % 2**64)
 
 
 # ---- UTF-8: Python's decoder, fed part by part and then told that the text ends
@@ -57,9 +81,9 @@ def standing(*parts):
         for part in parts:
             decoder.decode(part)
         decoder.decode(b"", final=True)
-        return "whole"
+        return "w"
     except UnicodeDecodeError as e:
-        return "cut" if e.reason == "unexpected end of data" else "bad"
+        return "c" if e.reason == "unexpected end of data" else "b"
 
 
 def is_text(name):
@@ -96,23 +120,13 @@ def texts():
     for word in (EXAMPLES + BORDERS + FAULTS).split():
         v = bytes.fromhex(word.replace("-", ""))
         singly = standing(*(bytes([b]) for b in v))
-        in_two = " ".join(standing(v[:k], v[k:]) for k in range(len(v) + 1))
-        print(f"text {v.hex()}: {standing(v)}, singly {singly}, in two {in_two}")
-
-
-def row(a):
-    answers = [standing(bytes([a, b])) for b in range(256)]
-    line = ", ".join(f"{what} {answers.count(what)}" for what in ("whole", "cut", "bad"))
-    good = [b for b in range(256) if answers[b] != "bad"]
-    return line + (f"; not bad from {good[0]} to {good[-1]}" if good else "")
+        in_two = "".join(standing(v[:k], v[k:]) for k in range(len(v) + 1))
+        case("u", f"{standing(v)} {singly} {in_two}", payload=v)
 
 
 def pairs():
-    start = 0
     for a in range(256):
-        if a == 255 or row(a + 1) != row(a):
-            print(f"first bytes {start} to {a}: {row(a)}")
-            start = a + 1
+        case("p", "".join(standing(bytes([a, b])) for b in range(256)), a)
 
 
 # ---- the export table
@@ -163,15 +177,8 @@ def fault(table, image):
         return f.args[0]
 
 
-def mark(table):
-    m = 0
-    for b in table:
-        m = (m * 31 + b) % 65521
-    return m
-
-
-def judged(what, table, image=8):
-    print(f"table {what}: {len(table)} bytes, mark {mark(table)}, image {image}: {fault(table, image)}")
+def judged(table, image=8):
+    case("t", f"{fault(table, image)}", image, payload=table)
 
 
 def record(start, size, flags, name, length=None):
@@ -183,26 +190,21 @@ def series(count):
     return b"".join(record(0, 8, 0, bytes([0x40 + i])) for i in range(count))
 
 
-def shown_record(start, size, flags, name, length=18):
-    return f"length {length}, {start}+{size}, flags {flags}, name {name.hex()}"
-
-
 def one(image, length, window, name):
-    judged(f"of {shown_record(*window, name, length)}", b"\x01" + record(*window, name, length), image)
+    judged(b"\x01" + record(*window, name, length), image)
 
 
 def two(x, a, y, b):
-    judged(f"of {shown_record(*x, a)} and {shown_record(*y, b)}", b"\x01" + record(*x, a) + record(*y, b))
+    judged(b"\x01" + record(*x, a) + record(*y, b))
 
 
 def last(count, window, stray):
-    table = b"\x01" + series(count) + record(*window, b"z") + bytes(stray)
-    judged(f"of {count} records, {shown_record(*window, b'z')}, stray bytes {stray}", table)
+    judged(b"\x01" + series(count) + record(*window, b"z") + bytes(stray))
 
 
 def lengths():
     for word in ("", "00", "01", "02", "0200", "0100", "0111", "010011"):
-        judged(word, bytes.fromhex(word))
+        judged(bytes.fromhex(word))
     for length, n in (
         (0, 0),
         (16, 0),
@@ -216,12 +218,12 @@ def lengths():
         (4113, 4096),
         (4114, 4097),
     ):
-        judged(f"of a record of length {length}, name of {n}", b"\x01" + record(0, 8, 0, b"a" * n, length))
+        judged(b"\x01" + record(0, 8, 0, b"a" * n, length))
 
 
 def names_flags_windows():
     for name in map(bytes.fromhex, ("E282AC", "EDA080", "C2", "61FF")):
-        judged(f"of a record, name {name.hex()}", b"\x01" + record(0, 0, 0, name))
+        judged(b"\x01" + record(0, 0, 0, name))
     for flags in (15, 16, 255):
         one(8, 18, (0, 8, flags), b"a")
     for image, start, size in ((8, 0, 8), (8, 0, 9), (8, 3, 5), (8, 3, 6), (8, 8, 0), (8, 9, 0), (0, 0, 0), (0, 0, 1)):
@@ -265,7 +267,7 @@ def wire_flags():
     """ "Flags: 1; plus 2 if read-only, else 4; plus 512 resizeable, 16 rotational, 32 send_trim." """
     for f in range(16):
         sent = 1 + (2 if f & 1 else 4) + (512 if f & 2 else 0) + (16 if f & 4 else 0) + (32 if f & 8 else 0)
-        print(f"flags {f}: {sent}")
+        case("w", f"{sent}", f)
 
 
 # ---- lookup
@@ -286,19 +288,20 @@ def lookup(steps):
 
 
 def shown(k, table):
-    return "none" if k is None else f"export {k} at {table[k][0]}"
+    return "none" if k is None else f"{k} {table[k][0]}"
 
 
-def looked_up(before, table, name):
+def looked_up(lent, name):
+    table = records(lent, 8)
     whole = lookup([(table, name)])
     singly = lookup([(table, b"")] + [(table, bytes([b])) for b in name])
     # "the first of two equal names wins"
     assert whole == next((k for k, r in enumerate(table) if r[3] == name), None)
-    print(f"{before}, looked up {name.hex()}: {shown(whole, table)}, singly {shown(singly, table)}")
+    case("n", f"{shown(whole, table)} {shown(singly, table)}", len(lent), payload=lent + name)
 
 
 def table_of(a, b):
-    return records(b"\x01" + record(1, 0, 0, a) + record(2, 0, 0, b), 8)
+    return b"\x01" + record(1, 0, 0, a) + record(2, 0, 0, b)
 
 
 def lookups():
@@ -313,21 +316,22 @@ def lookups():
         (b"abc", b"ab"),
     ):
         for name in (b"", b"a", b"ab", b"abc", b"abcd", b"b", b"aB", b"\xff\xff"):
-            looked_up(f"names {a.hex()} and {b.hex()}", table_of(a, b), name)
+            looked_up(table_of(a, b), name)
     for name in (b"", b"@", b"O", b"_", b"`", b"@A"):
-        looked_up("32 names", records(b"\x01" + series(32), 8), name)
+        looked_up(b"\x01" + series(32), name)
+
+
+def changed(lent, then):
+    first, second = records(lent, 8), records(then, 8)
+    k = lookup([(first, b"a"), (second, b"b")])
+    case("d", shown(k, second), len(lent), payload=lent + then)
 
 
 def changes():
     for a, b in ((b"ab", b"x"), (b"x", b"ab"), (b"ab", b"ab"), (b"abc", b"x")):
-        first = table_of(a, b)
-        begun = f"6162 begun with {a.hex()} and {b.hex()}, closed with"
         for c, d in ((b"ab", b"x"), (b"abc", b"x"), (b"xb", b"ab"), (b"a", b"ab"), (b"aB", b"x"), (b"x", b"ab")):
-            second = table_of(c, d)
-            k = lookup([(first, b"a"), (second, b"b")])
-            print(f"{begun} {c.hex()} and {d.hex()}: {shown(k, second)}")
-        k = lookup([(first, b"a"), (records(b"\x01", 8), b"b")])
-        print(f"{begun} none: {shown(k, [])}")
+            changed(table_of(a, b), table_of(c, d))
+        changed(table_of(a, b), b"\x01")
 
 
 fields()
@@ -342,3 +346,13 @@ orders()
 wire_flags()
 lookups()
 changes()
+
+what = sys.argv[1] if len(sys.argv) == 2 else ""
+for letter, x, y, payload, answer in CASES:
+    if what == "stdin":
+        size = len(payload).to_bytes(2, "big")
+        sys.stdout.buffer.write(letter.encode() + x.to_bytes(8, "big") + y.to_bytes(8, "big") + size + payload)
+    elif what == "stdout":
+        print(f"{letter} {x} {y} {payload.hex()}: {answer}")
+    else:
+        sys.exit("which of the two: stdin or stdout?")

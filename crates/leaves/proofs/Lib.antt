@@ -1,3 +1,2 @@
-pub mod Rows
-pub mod Drafts
 pub mod Sets
+pub mod Signed

@@ -1,16 +1,15 @@
--- Where a text stands: it is whole, it is cut inside a character, or no text begins so.
+-- Where a text stands, by a letter: w where it is whole, c where it is cut inside a character, b where no text begins so.
+use Prim.Native.Nat.{ℕ}
 use Rattle.wire.specs.declared.utf8.Utf8.{Utf8}
 use Rattle.wire.specs.declared.utf8.Utf8.the-variants.{Start, Tail1, Tail2, Tail3, AfterE0, AfterED, AfterF0, AfterF4, Bad}
-use Rattle.leaves.specs.declared.texts.Standing.{Standing}
-use Rattle.leaves.specs.declared.texts.Standing.the-variants.{Whole, Cut, Bad as IsBad}
 
-abbrev pub standing : Utf8 → Standing
-standing Start = Whole
-standing Tail1 = Cut
-standing Tail2 = Cut
-standing Tail3 = Cut
-standing AfterE0 = Cut
-standing AfterED = Cut
-standing AfterF0 = Cut
-standing AfterF4 = Cut
-standing Bad = IsBad
+abbrev pub standing : Utf8 → ℕ
+standing Start = 0x77
+standing Tail1 = 0x63
+standing Tail2 = 0x63
+standing Tail3 = 0x63
+standing AfterE0 = 0x63
+standing AfterED = 0x63
+standing AfterF0 = 0x63
+standing AfterF4 = 0x63
+standing Bad = 0x62

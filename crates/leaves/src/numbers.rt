@@ -6,43 +6,15 @@ use wire::number::Added;
 ghost use mathlib.Core.Path.{_≡_};
 ghost use Prim.Native.Nat.{_+_, _≤_};
 ghost use Rattle.wire.specs.Fields.{field};
+ghost use Rattle.leaves.specs.Twos.{twos};
 
-pub fn cases() {
-    fields_u16(0);
-    fields_u16(3);
-    fields_u32(0);
-    fields_u32(3);
-    fields_u64(0);
-    fields_u64(3);
-    clamps();
-    sums_down();
-    sums_up();
-}
+// ---- fields
 
-// A line: the room after a field is written to it, and the number that is read there.
-fn shown(room: &[u8; 12], width: u64, at: usize, back: u64) {
-    say::numbers(b"field of # at #: ", width, at as u64, 0);
+// The room after a field is written to it, and the number that is read there.
+fn shown(room: &[u8; 12], back: u64) {
+    say::letter(b' ');
     say::bytes(room);
-    say::number(b" reads #\n", back);
-}
-
-// ---- 2 bytes
-fn fields_u16(at: usize)
-    requires { ⌜ at + 2 ≤ 12 ⌝ }
-{
-    field_u16(at, 0);
-    field_u16(at, 1);
-    field_u16(at, 0x0102);
-    field_u16(at, 0xFFFF);
-}
-
-fn field_u16(at: usize, x: u16)
-    requires { ⌜ at + 2 ≤ 12 ⌝ }
-{
-    let mut room = [0xEEu8; 12];
-    fields::write_u16(&mut room, at, x);
-    let back = read_u16(&room, at);
-    shown(&room, 2, at, back as u64);
+    say::number(back);
 }
 
 fn read_u16(room: &[u8; 12], at: usize) -> u16
@@ -52,23 +24,13 @@ fn read_u16(room: &[u8; 12], at: usize) -> u16
     fields::read_u16(room, at)
 }
 
-// ---- 4 bytes
-fn fields_u32(at: usize)
-    requires { ⌜ at + 4 ≤ 12 ⌝ }
-{
-    field_u32(at, 0);
-    field_u32(at, 1);
-    field_u32(at, 0x0102_0304);
-    field_u32(at, 0xFFFF_FFFF);
-}
-
-fn field_u32(at: usize, x: u32)
-    requires { ⌜ at + 4 ≤ 12 ⌝ }
+fn field_u16(at: usize, x: u16)
+    requires { ⌜ at ≤ 4 ⌝ }
 {
     let mut room = [0xEEu8; 12];
-    fields::write_u32(&mut room, at, x);
-    let back = read_u32(&room, at);
-    shown(&room, 4, at, back as u64);
+    fields::write_u16(&mut room, at, x);
+    let back = read_u16(&room, at);
+    shown(&room, back as u64);
 }
 
 fn read_u32(room: &[u8; 12], at: usize) -> u32
@@ -78,23 +40,13 @@ fn read_u32(room: &[u8; 12], at: usize) -> u32
     fields::read_u32(room, at)
 }
 
-// ---- 8 bytes
-fn fields_u64(at: usize)
-    requires { ⌜ at + 8 ≤ 12 ⌝ }
-{
-    field_u64(at, 0);
-    field_u64(at, 1);
-    field_u64(at, 0x0102_0304_0506_0708);
-    field_u64(at, 0xFFFF_FFFF_FFFF_FFFF);
-}
-
-fn field_u64(at: usize, x: u64)
-    requires { ⌜ at + 8 ≤ 12 ⌝ }
+fn field_u32(at: usize, x: u32)
+    requires { ⌜ at ≤ 4 ⌝ }
 {
     let mut room = [0xEEu8; 12];
-    fields::write_u64(&mut room, at, x);
-    let back = read_u64(&room, at);
-    shown(&room, 8, at, back);
+    fields::write_u32(&mut room, at, x);
+    let back = read_u32(&room, at);
+    shown(&room, back as u64);
 }
 
 fn read_u64(room: &[u8; 12], at: usize) -> u64
@@ -104,47 +56,59 @@ fn read_u64(room: &[u8; 12], at: usize) -> u64
     fields::read_u64(room, at)
 }
 
-// ---- clamp_to_u32
-fn clamps() {
-    clamp(0);
-    clamp(0xFFFF_FFFF);
-    clamp(0x1_0000_0000);
-    clamp(0xFFFF_FFFF_FFFF_FFFF);
+fn field_u64(at: usize, x: u64)
+    requires { ⌜ at ≤ 4 ⌝ }
+{
+    let mut room = [0xEEu8; 12];
+    fields::write_u64(&mut room, at, x);
+    let back = read_u64(&room, at);
+    shown(&room, back);
 }
 
-fn clamp(x: u64) {
-    say::numbers(b"clamp #: #\n", x, number::clamp_to_u32(x) as u64, 0);
+// The number x, or its low bits, in a field of 2, 4 or 8 bytes, which the letter says.
+fn field_at(letter: u8, at: usize, x: u64)
+    requires { ⌜ at ≤ 4 ⌝ }
+{
+    match letter {
+        b'2' => field_u16(at, (x % 0x1_0000) as u16),
+        b'4' => field_u32(at, (x % 0x1_0000_0000) as u32),
+        _ => field_u64(at, x),
+    }
+}
+
+// The same, at the place y.
+pub fn field(letter: u8, x: u64, y: u64) {
+    if y <= 4 {
+        field_at(letter, y as usize, x);
+    } else {
+        say::letter(b'?');
+    }
+}
+
+// ---- clamp_to_u32 and clamp_usize_to_u32
+
+pub fn clamp(x: u64) {
+    say::number(number::clamp_to_u32(x) as u64);
+    say::number(number::clamp_usize_to_u32(x as usize) as u64);
 }
 
 // ---- checked_add_i64
-fn sums_down() {
-    add(b"5 + -5: ", 5, -5);
-    add(b"5 + -6: ", 5, -6);
-    add(b"0 + -1: ", 0, -1);
-    add(
-        b"2^63 + -2^63: ",
-        0x8000_0000_0000_0000,
-        -0x8000_0000_0000_0000,
-    );
-    add(
-        b"2^63 + -(2^63-1): ",
-        0x8000_0000_0000_0000,
-        -0x7FFF_FFFF_FFFF_FFFF,
-    );
+
+// The signed number whose two's complement is x.
+fn signed(x: u64) -> i64
+    ensures { λ r. ⌜ r ≡ twos x ⌝ }
+{
+    if x < 0x8000_0000_0000_0000 {
+        return x as i64;
+    }
+    let y = 0xFFFF_FFFF_FFFF_FFFF - x;
+    -1 - y as i64
 }
 
-fn sums_up() {
-    add(b"2^64-1 + 0: ", 0xFFFF_FFFF_FFFF_FFFF, 0);
-    add(b"2^64-1 + 1: ", 0xFFFF_FFFF_FFFF_FFFF, 1);
-    add(b"0 + 2^63-1: ", 0, 0x7FFF_FFFF_FFFF_FFFF);
-}
-
-fn add(sum: &[u8], p: u64, d: i64) {
-    say::text(b"add ");
-    say::text(sum);
-    let a = number::checked_add_i64(p, d);
+pub fn add(x: u64, y: u64) {
+    let a = number::checked_add_i64(x, signed(y));
     match a {
-        Added::Sum(n) => say::number(b"#\n", n),
-        Added::Outside => say::text(b"refused\n"),
+        Added::Sum(n) => say::number(n),
+        Added::Outside => say::text(b" refused"),
     }
 }

@@ -1,11 +1,24 @@
 // What is written, on standard output.
+use libc::STDOUT_FILENO;
+
 pub fn text(s: &[u8]) {
-    io::write_all(1, s);
+    io::write_all(STDOUT_FILENO, s);
+}
+
+pub fn letter(b: u8) {
+    let s = [b];
+    text(&s);
+}
+
+// A space and the number.
+pub fn number(n: u64) {
+    letter(b' ');
+    io::print_decimal(STDOUT_FILENO, n);
 }
 
 // A byte, in two digits.
-pub fn byte(b: u8) {
-    io::print_hex(1, b as u64, 2);
+fn byte(b: u8) {
+    io::print_hex(STDOUT_FILENO, b as u64, 2);
 }
 
 pub fn bytes(s: &[u8]) {
@@ -14,26 +27,4 @@ pub fn bytes(s: &[u8]) {
         byte(s[i]);
         i += 1;
     }
-}
-
-// A text in which each # stands for a number: a, then b, then c.
-pub fn numbers(shape: &[u8], a: u64, b: u64, c: u64) {
-    let mut first = a;
-    let mut second = b;
-    let mut i = 0;
-    while i < shape.len() {
-        let next = i + 1;
-        if shape[i] == b'#' {
-            io::print_decimal(1, first);
-            first = second;
-            second = c;
-        } else {
-            text(&shape[i..next]);
-        }
-        i = next;
-    }
-}
-
-pub fn number(shape: &[u8], a: u64) {
-    numbers(shape, a, 0, 0);
 }

@@ -6,28 +6,19 @@ use Rattle.leaves.proofs.texts.each_cut.Statement.{statement}
 use Rattle.leaves.proofs.texts.each_cut.Tie as tie
 
 abbrev Inv-loop : tie.InvT-loop
-Inv-loop v k₀ t3 k = k ≤ length v + 1
+Inv-loop v k₀ k = k ≤ length v + 1
 
 abbrev μ-loop : tie.MeasureT-loop
-μ-loop v k₀ t3 k = length v + 1 - k
+μ-loop v k₀ k = length v + 1 - k
 
 loop-holds : tie.Need-loop-holds Inv-loop μ-loop
 loop-holds c = search needs
 
-slice-aggregate-text : tie.Need-slice-aggregate-text Inv-loop μ-loop
-slice-aggregate-text c = search needs
-
-text-requires : tie.Need-text-requires Inv-loop μ-loop
-text-requires c κs = search needs
-
 in-two-requires : tie.Need-in-two-requires Inv-loop μ-loop
 in-two-requires c κs = search needs
 
-stands-requires : tie.Need-stands-requires Inv-loop μ-loop
-stands-requires c κs = search needs
-
-named-requires : tie.Need-named-requires Inv-loop μ-loop
-named-requires c κs = search needs
+show-requires : tie.Need-show-requires Inv-loop μ-loop
+show-requires c κs = search needs
 
 add-k : tie.Need-add-k Inv-loop μ-loop
 add-k c = search needs
@@ -48,11 +39,8 @@ each-cut-spec =
     Inv-loop
     μ-loop
     loop-holds
-    slice-aggregate-text
-    text-requires
     in-two-requires
-    stands-requires
-    named-requires
+    show-requires
     add-k
     loop-less
     loop-again
