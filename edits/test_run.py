@@ -17,7 +17,9 @@ FACT = "/x/c/proofs/transmission/send/Proof.antt:25:30: error: `returns`: comput
 FOLLOWS = "/x/c/proofs/a/Proof.antt:9:5: error: `a-spec`: `close` was not admitted (it has holes), so this cannot be checked"
 NO_FILE = "fn c::number::clamp: no proof: expected `clamp-spec` in /x/proofs/number/clamp/Proof.antt; `search` does not close `returns`"
 OTHER_NEED = "/x/c/proofs/a/Proof.antt:3:5: error: `a-spec`: expected type `tie.Need-sub-x`, but this has type `tie.Need-returns`"
-LOST_NEED = "/x/c/proofs/a/Proof.antt:3:5: error: `b`: `tie` has no `Need-b` that can be named from here"
+LOST_NEED = "/x/c/proofs/a/Proof.antt:3:5: error: `b`: `tie.Need-b`: module `c.proofs.a.Tie` has no `Need-b` that can be named from here"
+LOST_PLACE = "/x/c/proofs/a/Proof.antt:3:39: error: `returns`: record `c.proofs.a.Lts.Start` has no field `before`"
+NO_NAME = "/x/c/specs/Parts.antt:24:16: error: `owing`: `getDD` is not in scope; did you mean `getD`?"
 END = "\nlogic=not-proved functions=3"
 
 
@@ -72,6 +74,8 @@ class Judging(unittest.TestCase):
     def test_a_proof_that_does_not_fit(self):
         self.assertFalse(self.good(OTHER_NEED, "a a-spec"))
         self.assertFalse(self.good(LOST_NEED, "a b"))
+        self.assertFalse(self.good(LOST_PLACE, "a returns"))
+        self.assertFalse(self.good(NO_NAME, "Parts owing"))
 
 
 class Leaving(unittest.TestCase):
