@@ -39,8 +39,8 @@ fn is_over(o: Outcome) -> bool {
 fn is_nothing(o: Order) -> bool {
     match o {
         Order::Nothing => true,
-        Order::Read { n: _, file: _ } => false,
-        Order::Write { file: _ } => false,
+        Order::Read { .. } => false,
+        Order::Write { .. } => false,
         Order::SeekStart(_) => false,
         Order::SeekPosition(_) => false,
         Order::SeekEnd(_) => false,

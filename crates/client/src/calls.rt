@@ -99,11 +99,11 @@ pub fn amount(c: Call) -> u32
     ensures { λ r. ⌜ r ≡ amount c ⌝ }
 {
     match c {
-        Call::Read { n, len: _ } => n,
-        Call::Write { n, len: _ } => n,
+        Call::Read { n, .. } => n,
+        Call::Write { n, .. } => n,
         Call::Flush => 0,
         Call::Trim { n } => n,
-        Call::Resize { size: _ } => 0,
+        Call::Resize { .. } => 0,
     }
 }
 
@@ -111,11 +111,11 @@ pub fn payload(c: Call) -> u32
     ensures { λ r. ⌜ r ≡ payload c ⌝ }
 {
     match c {
-        Call::Read { n: _, len: _ } => 0,
-        Call::Write { n, len: _ } => n,
+        Call::Read { .. } => 0,
+        Call::Write { n, .. } => n,
         Call::Flush => 0,
-        Call::Trim { n: _ } => 0,
-        Call::Resize { size: _ } => 0,
+        Call::Trim { .. } => 0,
+        Call::Resize { .. } => 0,
     }
 }
 
@@ -123,11 +123,11 @@ pub fn wanted(c: Call) -> u32
     ensures { λ r. ⌜ r ≡ wanted c ⌝ }
 {
     match c {
-        Call::Read { n, len: _ } => n,
-        Call::Write { n: _, len: _ } => 0,
+        Call::Read { n, .. } => n,
+        Call::Write { .. } => 0,
         Call::Flush => 0,
-        Call::Trim { n: _ } => 0,
-        Call::Resize { size: _ } => 0,
+        Call::Trim { .. } => 0,
+        Call::Resize { .. } => 0,
     }
 }
 
@@ -135,11 +135,11 @@ fn type_of(c: Call) -> u16
     ensures { λ r. ⌜ r ≡ typeOf c ⌝ }
 {
     match c {
-        Call::Read { n: _, len: _ } => consts::NBD_CMD_READ,
-        Call::Write { n: _, len: _ } => consts::NBD_CMD_WRITE,
+        Call::Read { .. } => consts::NBD_CMD_READ,
+        Call::Write { .. } => consts::NBD_CMD_WRITE,
         Call::Flush => consts::NBD_CMD_FLUSH,
-        Call::Trim { n: _ } => consts::NBD_CMD_TRIM,
-        Call::Resize { size: _ } => consts::NBD_CMD_RESIZE,
+        Call::Trim { .. } => consts::NBD_CMD_TRIM,
+        Call::Resize { .. } => consts::NBD_CMD_RESIZE,
     }
 }
 
@@ -147,10 +147,10 @@ fn offset_of(d: Device, c: Call) -> u64
     ensures { λ r. ⌜ r ≡ offsetOf d c ⌝ }
 {
     match c {
-        Call::Read { n: _, len: _ } => d.position,
-        Call::Write { n: _, len: _ } => d.position,
+        Call::Read { .. } => d.position,
+        Call::Write { .. } => d.position,
         Call::Flush => 0,
-        Call::Trim { n: _ } => d.position,
+        Call::Trim { .. } => d.position,
         Call::Resize { size } => size,
     }
 }
@@ -184,11 +184,11 @@ pub fn value_of(c: Call) -> Value
     ensures { λ r. ⌜ r ≡ valueOf c ⌝ }
 {
     match c {
-        Call::Read { n, len: _ } => Value::Bytes(n),
-        Call::Write { n, len: _ } => Value::Bytes(n),
+        Call::Read { n, .. } => Value::Bytes(n),
+        Call::Write { n, .. } => Value::Bytes(n),
         Call::Flush => Value::Nothing,
-        Call::Trim { n: _ } => Value::Nothing,
-        Call::Resize { size: _ } => Value::Nothing,
+        Call::Trim { .. } => Value::Nothing,
+        Call::Resize { .. } => Value::Nothing,
     }
 }
 
@@ -198,10 +198,10 @@ fn moved(d: Device, c: Call) -> Device
     ensures { λ r. ⌜ r ≡ moved d c ⌝ }
 {
     match c {
-        Call::Read { n, len: _ } => positioned(d, d.position + n as u64),
-        Call::Write { n, len: _ } => positioned(d, d.position + n as u64),
+        Call::Read { n, .. } => positioned(d, d.position + n as u64),
+        Call::Write { n, .. } => positioned(d, d.position + n as u64),
         Call::Flush => d,
-        Call::Trim { n: _ } => d,
+        Call::Trim { .. } => d,
         Call::Resize { size } => {
             let fields = d.fields;
             Device {
@@ -362,8 +362,8 @@ pub fn absorb(
     ensures { λ r. ⌜ Absorbs turn (on (Calling d c (progressOf head p)) (now (lent .entry))) (now (input .entry)) (r .taken) (on (view (r .state)) (now (lent .exit))) ⌝ }
 {
     match p {
-        Progress::Asking { left: _ } => idle::takes_none(Phase::Calling(d, c, p), head),
-        Progress::Paying { left: _ } => idle::takes_none(Phase::Calling(d, c, p), head),
+        Progress::Asking { .. } => idle::takes_none(Phase::Calling(d, c, p), head),
+        Progress::Paying { .. } => idle::takes_none(Phase::Calling(d, c, p), head),
         Progress::Hearing { have } => hear(head, d, c, have, input),
         Progress::Filling { left } => fill(head, d, c, left, input, lent),
     }
@@ -377,7 +377,7 @@ pub fn emit(head: [u8; 16], d: Device, c: Call, p: Progress, lent: &[u8], room: 
     match p {
         Progress::Asking { left } => ask(head, d, c, left, room),
         Progress::Paying { left } => pay(head, d, c, left, lent, room),
-        Progress::Hearing { have: _ } => idle::gives_none(Phase::Calling(d, c, p), head),
-        Progress::Filling { left: _ } => idle::gives_none(Phase::Calling(d, c, p), head),
+        Progress::Hearing { .. } => idle::gives_none(Phase::Calling(d, c, p), head),
+        Progress::Filling { .. } => idle::gives_none(Phase::Calling(d, c, p), head),
     }
 }

@@ -364,8 +364,8 @@ pub fn absorb(head: [u8; 16], name: usize, p: Handshake, input: &[u8]) -> Took
         Handshake::Magic { have } => take_magic(head, name, have, input),
         Handshake::Style { have } => take_style(head, name, have, input),
         Handshake::Newstyle { left } => skip_flags(head, name, left, input.len()),
-        Handshake::Hello { left: _ } => idle::takes_none(Phase::Shaking(name, p), head),
-        Handshake::Naming { left: _ } => idle::takes_none(Phase::Shaking(name, p), head),
+        Handshake::Hello { .. } => idle::takes_none(Phase::Shaking(name, p), head),
+        Handshake::Naming { .. } => idle::takes_none(Phase::Shaking(name, p), head),
         Handshake::Terms { old, have } => take_terms(head, name, old, have, input),
         Handshake::Filler {
             size,
@@ -382,17 +382,12 @@ pub fn emit(head: [u8; 16], name: usize, p: Handshake, lent: &[u8], room: &mut [
     ensures { λ r. ⌜ Emits turn (on (Shaking name (handshakeOf head p)) (now (lent .entry))) (now (room .entry)) (r .given) (on (view (r .state)) (now (lent .entry))) (now (room .exit)) ⌝ }
 {
     match p {
-        Handshake::Magic { have: _ } => idle::gives_none(Phase::Shaking(name, p), head),
-        Handshake::Style { have: _ } => idle::gives_none(Phase::Shaking(name, p), head),
-        Handshake::Newstyle { left: _ } => idle::gives_none(Phase::Shaking(name, p), head),
+        Handshake::Magic { .. } => idle::gives_none(Phase::Shaking(name, p), head),
+        Handshake::Style { .. } => idle::gives_none(Phase::Shaking(name, p), head),
+        Handshake::Newstyle { .. } => idle::gives_none(Phase::Shaking(name, p), head),
         Handshake::Hello { left } => send_hello(head, name, left, room),
         Handshake::Naming { left } => send_name(head, name, left, lent, room),
-        Handshake::Terms { old: _, have: _ } => idle::gives_none(Phase::Shaking(name, p), head),
-        Handshake::Filler {
-            size: _,
-            flags: _,
-            clean: _,
-            left: _,
-        } => idle::gives_none(Phase::Shaking(name, p), head),
+        Handshake::Terms { .. } => idle::gives_none(Phase::Shaking(name, p), head),
+        Handshake::Filler { .. } => idle::gives_none(Phase::Shaking(name, p), head),
     }
 }

@@ -43,12 +43,7 @@ fn ranged_shaking(head: [u8; 16], name: usize, p: Handshake) -> bool
         Handshake::Hello { left } => between(1, 20, left),
         Handshake::Naming { left } => between(1, name, left),
         Handshake::Terms { old, have } => if old { have < 12 } else { have < 10 },
-        Handshake::Filler {
-            size: _,
-            flags: _,
-            clean: _,
-            left,
-        } => between(1, 124, left),
+        Handshake::Filler { left, .. } => between(1, 124, left),
     }
 }
 
@@ -75,7 +70,7 @@ fn ranged_call(d: Device, c: Call) -> bool
         Call::Write { n, len } => if n as usize <= len { fits(d, n) } else { false },
         Call::Flush => true,
         Call::Trim { n } => fits(d, n),
-        Call::Resize { size: _ } => true,
+        Call::Resize { .. } => true,
     }
 }
 
@@ -133,16 +128,11 @@ fn used_shaking(p: Handshake) -> usize
     match p {
         Handshake::Magic { have } => have,
         Handshake::Style { have } => have,
-        Handshake::Newstyle { left: _ } => 0,
-        Handshake::Hello { left: _ } => 0,
-        Handshake::Naming { left: _ } => 0,
-        Handshake::Terms { old: _, have } => have,
-        Handshake::Filler {
-            size: _,
-            flags: _,
-            clean: _,
-            left: _,
-        } => 0,
+        Handshake::Newstyle { .. } => 0,
+        Handshake::Hello { .. } => 0,
+        Handshake::Naming { .. } => 0,
+        Handshake::Terms { have, .. } => have,
+        Handshake::Filler { .. } => 0,
     }
 }
 
@@ -150,10 +140,10 @@ fn used_calling(p: Progress) -> usize
     ensures { λ r. ⌜ r ≡ usedCalling p ⌝ }
 {
     match p {
-        Progress::Asking { left: _ } => 0,
-        Progress::Paying { left: _ } => 0,
+        Progress::Asking { .. } => 0,
+        Progress::Paying { .. } => 0,
         Progress::Hearing { have } => have,
-        Progress::Filling { left: _ } => 0,
+        Progress::Filling { .. } => 0,
     }
 }
 
@@ -190,11 +180,11 @@ fn lent_to(c: Call) -> usize
     ensures { λ r. ⌜ r ≡ lentTo c ⌝ }
 {
     match c {
-        Call::Read { n: _, len } => len,
-        Call::Write { n: _, len } => len,
+        Call::Read { len, .. } => len,
+        Call::Write { len, .. } => len,
         Call::Flush => 0,
-        Call::Trim { n: _ } => 0,
-        Call::Resize { size: _ } => 0,
+        Call::Trim { .. } => 0,
+        Call::Resize { .. } => 0,
     }
 }
 

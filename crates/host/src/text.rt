@@ -207,7 +207,7 @@ fn quoted(line: &[u8], at: usize, name: &mut [u8]) -> Name
     }
     let g = glyph_at(line, i);
     match g {
-        Glyph::Byte { byte: _, next: _ } => Name::Bad(Mistake::LongName),
+        Glyph::Byte { .. } => Name::Bad(Mistake::LongName),
         Glyph::Close(next) => Name::Is { len: n, next },
         Glyph::Bad(m) => Name::Bad(m),
     }

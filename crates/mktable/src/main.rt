@@ -52,7 +52,7 @@ fn obey(image: usize, text: &[u8]) {
 fn run(text: &mut [u8; TEXT]) {
     let s = size();
     match s {
-        Number::Is { value, next: _ } => read_and_obey(value as usize, text),
+        Number::Is { value, .. } => read_and_obey(value as usize, text),
         Number::Bad => usage(),
     }
 }

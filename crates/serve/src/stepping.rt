@@ -32,24 +32,10 @@ fn offered_serving(head: [u8; 28], e: Export, p: Transmission, n: usize) -> usiz
                 0
             }
         }
-        Transmission::Storing {
-            handle: _,
-            off: _,
-            left,
-        } => copy::least(left, n),
-        Transmission::Dropping {
-            error: _,
-            handle: _,
-            left: _,
-        } => n,
-        Transmission::Replying {
-            error: _,
-            handle: _,
-            left: _,
-            off: _,
-            len: _,
-        } => n,
-        Transmission::Sending { off: _, left: _ } => n,
+        Transmission::Storing { left, .. } => copy::least(left, n),
+        Transmission::Dropping { .. } => n,
+        Transmission::Replying { .. } => n,
+        Transmission::Sending { .. } => n,
     }
 }
 
@@ -72,28 +58,14 @@ fn changed_serving(head: [u8; 28], e: Export, p: Transmission, taken: usize, ima
 {
     let none = Part { from: 0, len: 0 };
     match p {
-        Transmission::Header { have: _ } => none,
-        Transmission::Storing {
-            handle: _,
-            off,
-            left: _,
-        } => Part {
+        Transmission::Header { .. } => none,
+        Transmission::Storing { off, .. } => Part {
             from: e.start as usize + off,
             len: taken,
         },
-        Transmission::Dropping {
-            error: _,
-            handle: _,
-            left: _,
-        } => none,
-        Transmission::Replying {
-            error: _,
-            handle: _,
-            left: _,
-            off: _,
-            len: _,
-        } => none,
-        Transmission::Sending { off: _, left: _ } => none,
+        Transmission::Dropping { .. } => none,
+        Transmission::Replying { .. } => none,
+        Transmission::Sending { .. } => none,
     }
 }
 

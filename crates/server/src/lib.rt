@@ -80,19 +80,11 @@ fn absorb_shaking(head: [u8; 28], p: Handshake, table: &[u8], input: &[u8]) -> T
             len,
             left,
         } => handshake::pass(head, zeroes, option, len, left, input.len()),
-        Handshake::Greeting { left: _ } => idle::takes_none(Phase::Shaking(p), head),
-        Handshake::Listing { zeroes: _, left: _ } => idle::takes_none(Phase::Shaking(p), head),
-        Handshake::Declining {
-            zeroes: _,
-            option: _,
-            left: _,
-        } => idle::takes_none(Phase::Shaking(p), head),
-        Handshake::Aborting { left: _ } => idle::takes_none(Phase::Shaking(p), head),
-        Handshake::Exporting {
-            zeroes: _,
-            export: _,
-            left: _,
-        } => idle::takes_none(Phase::Shaking(p), head),
+        Handshake::Greeting { .. } => idle::takes_none(Phase::Shaking(p), head),
+        Handshake::Listing { .. } => idle::takes_none(Phase::Shaking(p), head),
+        Handshake::Declining { .. } => idle::takes_none(Phase::Shaking(p), head),
+        Handshake::Aborting { .. } => idle::takes_none(Phase::Shaking(p), head),
+        Handshake::Exporting { .. } => idle::takes_none(Phase::Shaking(p), head),
     }
 }
 
@@ -118,14 +110,8 @@ fn absorb_serving(
             handle,
             left,
         } => transmission::discard(head, e, error, handle, left, input.len()),
-        Transmission::Replying {
-            error: _,
-            handle: _,
-            left: _,
-            off: _,
-            len: _,
-        } => idle::takes_none(Phase::Serving(e, p), head),
-        Transmission::Sending { off: _, left: _ } => idle::takes_none(Phase::Serving(e, p), head),
+        Transmission::Replying { .. } => idle::takes_none(Phase::Serving(e, p), head),
+        Transmission::Sending { .. } => idle::takes_none(Phase::Serving(e, p), head),
     }
 }
 
@@ -178,17 +164,9 @@ fn emit_serving(head: [u8; 28], e: Export, p: Transmission, room: &mut [u8], ima
             let b = a + e.size as usize;
             transmission::send(head, e, off, left, &image[a..b], room)
         }
-        Transmission::Header { have: _ } => idle::gives_none(Phase::Serving(e, p), head),
-        Transmission::Storing {
-            handle: _,
-            off: _,
-            left: _,
-        } => idle::gives_none(Phase::Serving(e, p), head),
-        Transmission::Dropping {
-            error: _,
-            handle: _,
-            left: _,
-        } => idle::gives_none(Phase::Serving(e, p), head),
+        Transmission::Header { .. } => idle::gives_none(Phase::Serving(e, p), head),
+        Transmission::Storing { .. } => idle::gives_none(Phase::Serving(e, p), head),
+        Transmission::Dropping { .. } => idle::gives_none(Phase::Serving(e, p), head),
     }
 }
 
@@ -264,34 +242,15 @@ fn outside_shaking(p: Handshake, n: usize) -> u8
     ensures { λ r. ⌜ ((h : List ℕ) → r ≡ outsideShaking n (handshakeOf h p)) ⌝ }
 {
     match p {
-        Handshake::Exporting {
-            zeroes: _,
-            export,
-            left: _,
-        } => outside(export, n),
-        Handshake::Greeting { left: _ } => 0,
-        Handshake::ClientFlags { have: _ } => 0,
-        Handshake::OptionHead { zeroes: _, have: _ } => 0,
-        Handshake::Naming {
-            zeroes: _,
-            fits: _,
-            text: _,
-            at: _,
-            left: _,
-        } => 0,
-        Handshake::Passing {
-            zeroes: _,
-            option: _,
-            len: _,
-            left: _,
-        } => 0,
-        Handshake::Listing { zeroes: _, left: _ } => 0,
-        Handshake::Declining {
-            zeroes: _,
-            option: _,
-            left: _,
-        } => 0,
-        Handshake::Aborting { left: _ } => 0,
+        Handshake::Exporting { export, .. } => outside(export, n),
+        Handshake::Greeting { .. } => 0,
+        Handshake::ClientFlags { .. } => 0,
+        Handshake::OptionHead { .. } => 0,
+        Handshake::Naming { .. } => 0,
+        Handshake::Passing { .. } => 0,
+        Handshake::Listing { .. } => 0,
+        Handshake::Declining { .. } => 0,
+        Handshake::Aborting { .. } => 0,
     }
 }
 
@@ -341,34 +300,15 @@ fn owes_shaking(p: Handshake) -> bool
     ensures { λ r. ⌜ ((h : List ℕ) → r ≡ owesOutput (Shaking (handshakeOf h p))) ⌝ }
 {
     match p {
-        Handshake::Greeting { left: _ } => true,
-        Handshake::ClientFlags { have: _ } => false,
-        Handshake::OptionHead { zeroes: _, have: _ } => false,
-        Handshake::Naming {
-            zeroes: _,
-            fits: _,
-            text: _,
-            at: _,
-            left: _,
-        } => false,
-        Handshake::Passing {
-            zeroes: _,
-            option: _,
-            len: _,
-            left: _,
-        } => false,
-        Handshake::Listing { zeroes: _, left: _ } => true,
-        Handshake::Declining {
-            zeroes: _,
-            option: _,
-            left: _,
-        } => true,
-        Handshake::Aborting { left: _ } => true,
-        Handshake::Exporting {
-            zeroes: _,
-            export: _,
-            left: _,
-        } => true,
+        Handshake::Greeting { .. } => true,
+        Handshake::ClientFlags { .. } => false,
+        Handshake::OptionHead { .. } => false,
+        Handshake::Naming { .. } => false,
+        Handshake::Passing { .. } => false,
+        Handshake::Listing { .. } => true,
+        Handshake::Declining { .. } => true,
+        Handshake::Aborting { .. } => true,
+        Handshake::Exporting { .. } => true,
     }
 }
 
@@ -376,25 +316,11 @@ fn owes_serving(p: Transmission) -> bool
     ensures { λ r. ⌜ ((h : List ℕ) (e : Export) → r ≡ owesOutput (Serving e (transmissionOf h p))) ⌝ }
 {
     match p {
-        Transmission::Header { have: _ } => false,
-        Transmission::Storing {
-            handle: _,
-            off: _,
-            left: _,
-        } => false,
-        Transmission::Dropping {
-            error: _,
-            handle: _,
-            left: _,
-        } => false,
-        Transmission::Replying {
-            error: _,
-            handle: _,
-            left: _,
-            off: _,
-            len: _,
-        } => true,
-        Transmission::Sending { off: _, left: _ } => true,
+        Transmission::Header { .. } => false,
+        Transmission::Storing { .. } => false,
+        Transmission::Dropping { .. } => false,
+        Transmission::Replying { .. } => true,
+        Transmission::Sending { .. } => true,
     }
 }
 

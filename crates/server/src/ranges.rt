@@ -100,26 +100,19 @@ fn ranged_shaking(head: [u8; 28], p: Handshake) -> bool
     match p {
         Handshake::Greeting { left } => between(1, 18, left),
         Handshake::ClientFlags { have } => have < 4,
-        Handshake::OptionHead { zeroes: _, have } => have < 16,
-        Handshake::Naming {
-            zeroes: _,
-            fits: _,
-            text: _,
-            at,
-            left,
-        } => both(0 < left, fits(at, left, 100000)),
+        Handshake::OptionHead { have, .. } => have < 16,
+        Handshake::Naming { at, left, .. } => both(0 < left, fits(at, left, 100000)),
         Handshake::Passing {
-            zeroes: _,
             option,
             len,
             left,
+            ..
         } => passed(option, len, left),
-        Handshake::Listing { zeroes: _, left } => between(1, 51, left),
-        Handshake::Declining {
-            zeroes: _,
-            option,
-            left,
-        } => both(unsupported(option), between(1, 20, left)),
+        Handshake::Listing { left, .. } => between(1, 51, left),
+        Handshake::Declining { option, left, .. } => both(
+            unsupported(option),
+            between(1, 20, left),
+        ),
         Handshake::Aborting { left } => between(1, 20, left),
         Handshake::Exporting {
             zeroes,
@@ -174,22 +167,14 @@ fn ranged_serving(head: [u8; 28], e: Export, p: Transmission) -> bool
 {
     match p {
         Transmission::Header { have } => have < 28,
-        Transmission::Storing {
-            handle: _,
-            off,
-            left,
-        } => both(!request::read_only(e), part(e, off, left)),
-        Transmission::Dropping {
-            error,
-            handle: _,
-            left,
-        } => both(error == refused(e), 0 < left),
+        Transmission::Storing { off, left, .. } => both(!request::read_only(e), part(e, off, left)),
+        Transmission::Dropping { error, left, .. } => both(error == refused(e), 0 < left),
         Transmission::Replying {
             error,
-            handle: _,
             left,
             off,
             len,
+            ..
         } => both(between(1, 16, left), behind(e, error, off, len)),
         Transmission::Sending { off, left } => part(e, off, left),
     }
@@ -213,34 +198,15 @@ fn used_shaking(p: Handshake) -> usize
     ensures { λ r. ⌜ r ≡ usedShaking p ⌝ }
 {
     match p {
-        Handshake::Greeting { left: _ } => 0,
+        Handshake::Greeting { .. } => 0,
         Handshake::ClientFlags { have } => have,
-        Handshake::OptionHead { zeroes: _, have } => have,
-        Handshake::Naming {
-            zeroes: _,
-            fits: _,
-            text: _,
-            at: _,
-            left: _,
-        } => 0,
-        Handshake::Passing {
-            zeroes: _,
-            option: _,
-            len: _,
-            left: _,
-        } => 0,
-        Handshake::Listing { zeroes: _, left: _ } => 0,
-        Handshake::Declining {
-            zeroes: _,
-            option: _,
-            left: _,
-        } => 0,
-        Handshake::Aborting { left: _ } => 0,
-        Handshake::Exporting {
-            zeroes: _,
-            export: _,
-            left: _,
-        } => 0,
+        Handshake::OptionHead { have, .. } => have,
+        Handshake::Naming { .. } => 0,
+        Handshake::Passing { .. } => 0,
+        Handshake::Listing { .. } => 0,
+        Handshake::Declining { .. } => 0,
+        Handshake::Aborting { .. } => 0,
+        Handshake::Exporting { .. } => 0,
     }
 }
 
@@ -249,24 +215,10 @@ fn used_serving(p: Transmission) -> usize
 {
     match p {
         Transmission::Header { have } => have,
-        Transmission::Storing {
-            handle: _,
-            off: _,
-            left: _,
-        } => 0,
-        Transmission::Dropping {
-            error: _,
-            handle: _,
-            left: _,
-        } => 0,
-        Transmission::Replying {
-            error: _,
-            handle: _,
-            left: _,
-            off: _,
-            len: _,
-        } => 0,
-        Transmission::Sending { off: _, left: _ } => 0,
+        Transmission::Storing { .. } => 0,
+        Transmission::Dropping { .. } => 0,
+        Transmission::Replying { .. } => 0,
+        Transmission::Sending { .. } => 0,
     }
 }
 

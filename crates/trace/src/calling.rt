@@ -52,11 +52,11 @@ fn is_resize(c: state::Call) -> bool
     ensures { λ r. ⌜ r ≡ isResize c ⌝ }
 {
     match c {
-        state::Call::Read { n: _, len: _ } => false,
-        state::Call::Write { n: _, len: _ } => false,
+        state::Call::Read { .. } => false,
+        state::Call::Write { .. } => false,
         state::Call::Flush => false,
-        state::Call::Trim { n: _ } => false,
-        state::Call::Resize { size: _ } => true,
+        state::Call::Trim { .. } => false,
+        state::Call::Resize { .. } => true,
     }
 }
 
