@@ -29,7 +29,7 @@ struct Run {
 // A step, counted.
 fn step(r: Run, table: &[u8], image: &mut [u8], input: &[u8], room: &mut [u8]) -> Run {
     let s = r.server;
-    let a = s.step(table, image, input, room);
+    let a = s.step(input, room, table, image);
     let server = a.state;
     let taken = std::num::wrapping_add_u64(r.moved, a.taken as u64);
     Run {

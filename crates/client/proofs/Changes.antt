@@ -14,19 +14,19 @@ use lib.ListN.{length, drop, set}
 use lib.Seq.{drop-set-lt, sets}
 use Rattle.machine.specs.Choice.{pick, both}
 use Rattle.machine.specs.Machine.{Turn, gives, takes, rests, On, on, Moves, still, by-give, by-take, Kept, Keeps}
-use Rattle.machine.specs.Bulk.{less}
+use Rattle.machine.specs.Parts.{less}
 use Rattle.machine.proofs.Moves.{kept}
 use Rattle.wire.specs.Fields.{field, sameBytes}
 use Rattle.wire.specs.Constants.{NBDMAGIC, IHAVEOPT, OLDSTYLE, NBD-REPLY-MAGIC}
 use Rattle.client.specs.Calls.{payload, wanted, valueOf, moved}
-use Rattle.client.specs.Session.{Handshake, Magic, Style, Newstyle, Hello, Naming, Terms, Filler, Progress, Asking, Paying, Hearing, Filling, State, Shaking, Calling, Closed, Over}
-use Rattle.client.specs.Session.{magicked, styled, naming, greeting, newstyle, termsLength, termed, filler, filling, paying, asking, replied, heard, turn}
-use Rattle.client.specs.Ranges.{Sound}
+use Rattle.client.specs.Session.{Handshake, Magic, Style, Newstyle, Hello, Naming, SizeAndFlags, Filler, Progress, Asking, Paying, Hearing, Filling, State, Shaking, Calling, Closed, Over}
+use Rattle.client.specs.Session.{judgeMagic, judgeStyle, naming, greeting, newstyle, sizeAndFlagsLength, judgeSizeAndFlags, filler, filling, paying, afterRequest, replied, heard, turn}
+use Rattle.client.specs.Inner.{Good}
 use Rattle.client.specs.declared.state.Device.{Device}
 use Rattle.client.specs.declared.state.Call.{Call}
 use Rattle.client.specs.declared.state.Outcome.{Outcome}
 use Rattle.client.specs.declared.state.Outcome.the-variants.{Succeeded, Failed}
-use Rattle.client.proofs.Sound.{fine}
+use Rattle.client.proofs.Kept.{fine}
 
 -- ---- the device
 pub data Held (d : Device) (c : Call) : State → Type 0 where
@@ -47,7 +47,7 @@ module _ (d : Device) (c : Call) where
   paying-held zero = going-on
   paying-held (suc left) = going-on
 
-  asking-held : (left : ℕ) → Held d c (asking d c left)
+  asking-held : (left : ℕ) → Held d c (afterRequest d c left)
   asking-held zero = paying-held (payload c)
   asking-held (suc left) = going-on
 
@@ -87,9 +87,9 @@ module _ (d : Device) (c : Call) where
 -- ---- the buffer from the place n on
 module _ (d : Device) (c : Call) (m₀ : List ℕ) where
   abbrev Same : On State → Type 0
-  Same (on x m) = Held d c x × Sound (length m) x × (drop (wanted c) m ≡ drop (wanted c) m₀)
+  Same (on x m) = Held d c x × Good (length m) x × (drop (wanted c) m ≡ drop (wanted c) m₀)
 
-  same-turn : (p : Progress) (m : List ℕ) → Sound (length m) (Calling d c p) → drop (wanted c) m ≡ drop (wanted c) m₀ → Kept Same (turn (on (Calling d c p) m))
+  same-turn : (p : Progress) (m : List ℕ) → Good (length m) (Calling d c p) → drop (wanted c) m ≡ drop (wanted c) m₀ → Kept Same (turn (on (Calling d c p) m))
   same-turn (Asking left) m s e = (held-turn d c (Asking left) m, fine (on (Calling d c (Asking left)) m) s, e)
   same-turn (Paying left) m s e = (held-turn d c (Paying left) m, fine (on (Calling d c (Paying left)) m) s, e)
   same-turn (Hearing got) m s e = λ b. (held-turn d c (Hearing got) m b, fine (on (Calling d c (Hearing got)) m) s b, e)
@@ -99,13 +99,13 @@ module _ (d : Device) (c : Call) (m₀ : List ℕ) where
   sames : Keeps turn Same
   sames (on x m) h = go x m (h .0) (h .1) (h .2)
     where
-      go : (x : State) (m : List ℕ) → Held d c x → Sound (length m) x → drop (wanted c) m ≡ drop (wanted c) m₀ → Kept Same (turn (on x m))
+      go : (x : State) (m : List ℕ) → Held d c x → Good (length m) x → drop (wanted c) m ≡ drop (wanted c) m₀ → Kept Same (turn (on x m))
       go x m (going-on {p = p}) s e = same-turn p m s e
       go x m succeeded s e = tt
       go x m failed s e = tt
       go x m ended s e = tt
 
-pub rest-unchanged : (d : Device) (c : Call) {p : Progress} {m m′ is os : List ℕ} {y : State} → Sound (length m) (Calling d c p)
+pub rest-unchanged : (d : Device) (c : Call) {p : Progress} {m m′ is os : List ℕ} {y : State} → Good (length m) (Calling d c p)
     → Moves turn (on (Calling d c p) m) is os (on y m′) → drop (wanted c) m′ ≡ drop (wanted c) m
 rest-unchanged d c {m = m} s q = kept (sames d c m) q (going-on, s, refl) .2
 
@@ -155,19 +155,19 @@ either-greets : (b : Bool) {x y : State} → Greets x → Greets y → Greets (p
 either-greets true p q = p
 either-greets false p q = q
 
-magicked-greets : (n : ℕ) (h : List ℕ) → Greets (magicked n h)
-unfolding magicked
+magicked-greets : (n : ℕ) (h : List ℕ) → Greets (judgeMagic n h)
+unfolding judgeMagic
 magicked-greets n h = either-greets (ltb (length h) 8) shaking (either-greets (sameBytes h NBDMAGIC) shaking over)
 
-styled-greets : (n : ℕ) (h : List ℕ) → Greets (styled n h)
-unfolding styled
+styled-greets : (n : ℕ) (h : List ℕ) → Greets (judgeStyle n h)
+unfolding judgeStyle
 styled-greets n h =
     either-greets (ltb (length h) 8) shaking
     (either-greets (sameBytes h IHAVEOPT) shaking (either-greets (sameBytes h OLDSTYLE) (either-greets (eqb n 0) shaking over) over))
 
-termed-greets : (n : ℕ) (old : Bool) (h : List ℕ) → Greets (termed n old h)
-unfolding termed
-termed-greets n old h = either-greets (ltb (length h) (termsLength old)) shaking shaking
+termed-greets : (n : ℕ) (old : Bool) (h : List ℕ) → Greets (judgeSizeAndFlags n old h)
+unfolding judgeSizeAndFlags
+termed-greets n old h = either-greets (ltb (length h) (sizeAndFlagsLength old)) shaking shaking
 
 module _ (m₀ : List ℕ) where
   abbrev Unchanged : On State → Type 0
@@ -179,7 +179,7 @@ module _ (m₀ : List ℕ) where
   greets-turn n (Newstyle left) m e = λ b. (newstyle-greets n (less left), e)
   greets-turn n (Hello left) m e = (greeting-greets n (less left), e)
   greets-turn n (Naming left) m e = (naming-greets n (less left), e)
-  greets-turn n (Terms old got) m e = λ b. (termed-greets n old (got ++ b ∷ []), e)
+  greets-turn n (SizeAndFlags old got) m e = λ b. (termed-greets n old (got ++ b ∷ []), e)
   greets-turn n (Filler size flags clean left) m e = λ b. (filler-greets n size flags (both clean (eqb b 0)) (less left), e)
 
   unchanged : Keeps turn Unchanged

@@ -15,14 +15,14 @@ use lib.ListN.{length, set, take, drop, replicate, length-append, length-replica
 use lib.Seq.{length-take-le}
 use Rattle.machine.specs.Choice.{pick, both}
 use Rattle.machine.specs.Machine.{Turn, On, on, Moves, still, by-give, by-take}
-use Rattle.machine.specs.Session.{Further}
+use Rattle.machine.specs.Stream.{Further}
 use Rattle.machine.proofs.Moves.{resting}
 use Rattle.machine.proofs.Cutting.{one-way}
 use Rattle.wire.specs.Fields.{field, sameBytes}
 use Rattle.wire.specs.Constants.{NBDMAGIC, IHAVEOPT, OLDSTYLE, NBD-REPLY-MAGIC}
 use Rattle.wire.specs.Layouts.{exportName}
-use Rattle.client.specs.Calls.{payload, wanted, asks, valueOf}
-use Rattle.client.specs.Session.{Magic, Style, Newstyle, Terms, Filler, Asking, State, Shaking, Calling, Closed, Over, magicked, oldstyle, styled, termsLength, flagsOf, termed, filler, filling, replied, heard, turn}
+use Rattle.client.specs.Calls.{payload, wanted, requestBytes, valueOf}
+use Rattle.client.specs.Session.{Magic, Style, Newstyle, SizeAndFlags, Filler, Asking, State, Shaking, Calling, Closed, Over, judgeMagic, oldstyle, judgeStyle, sizeAndFlagsLength, flagsOf, judgeSizeAndFlags, filler, filling, replied, heard, turn}
 use Rattle.client.specs.declared.state.Device.{Device}
 use Rattle.client.specs.declared.state.Call.{Call}
 use Rattle.client.specs.declared.state.Outcome.{Outcome}
@@ -138,9 +138,9 @@ heard-whole d c h e = rw e
 
 module _ (d : Device) (c : Call) {m m′ is os : List ℕ} {o : Outcome} {d′ : Device} (fits : payload c ≤ length m)
     (q : Moves turn (on (Calling d c (Asking 28)) m) is os (on (Closed o d′) m′)) where
-  pub call-closes : (os ≡ asks d c ++ take (payload c) m) × (length is ≡ 16 + behind o c)
+  pub call-closes : (os ≡ requestBytes d c ++ take (payload c) m) × (length is ≡ 16 + behind o c)
   call-closes =
-      let sent : List ℕ = asks d c ++ take (payload c) m in
+      let sent : List ℕ = requestBytes d c ++ take (payload c) m in
       let p = passes (λ h. on (heard d c h) m) 16 sent (λ h e. call-heard d c m fits h e) q in
       let r = reply-closes d c (p .first) (rw (heard-whole d c (p .first) (p .long)) at (p .goes-on)) in
       (p .all-out ∙ rw (r .1) (append-nil sent), ap length (p .all-in) ∙ length-append (p .first) (p .rest) ∙ rw (p .long, r .0))
@@ -149,7 +149,7 @@ module _ (d : Device) (c : Call) {m m′ is os : List ℕ} {o : Outcome} {d′ :
   pub carried : (length os ≡ 28 + payload c) × (length is ≡ 16 + behind o c)
   carried =
       let r = call-closes in
-      (ap length (r .0) ∙ length-append (asks d c) (take (payload c) m) ∙ rw (length-asks d c, length-take-le (payload c) m fits), r .1)
+      (ap length (r .0) ∙ length-append (requestBytes d c) (take (payload c) m) ∙ rw (length-asks d c, length-take-le (payload c) m fits), r .1)
 
 -- ---- the handshake
 -- the filler: all of it, and nothing is sent
@@ -163,27 +163,27 @@ filler-closes n size flags clean (suc left) {m = m} (by-take {z = z} {k = k} {b 
     let r = filler-closes n size flags (both clean (eqb b 0)) left (rw (sym s) at q) in
     (ap suc (r .0), r .1)
 
-terms-some : (old : Bool) → 0 < termsLength old
+terms-some : (old : Bool) → 0 < sizeAndFlagsLength old
 terms-some true = omega arith
 terms-some false = omega arith
 
-termed-whole : (n : ℕ) (old : Bool) (h : List ℕ) → length h ≡ termsLength old → termed n old h ≡ Shaking n (Filler (field h 0 8) (flagsOf old h) true 124)
-unfolding termed
-termed-whole n old h e = rw (le-ltb (length h) (termsLength old) (omega arith))
+termed-whole : (n : ℕ) (old : Bool) (h : List ℕ) → length h ≡ sizeAndFlagsLength old → judgeSizeAndFlags n old h ≡ Shaking n (Filler (field h 0 8) (flagsOf old h) true 124)
+unfolding judgeSizeAndFlags
+termed-whole n old h e = rw (le-ltb (length h) (sizeAndFlagsLength old) (omega arith))
 
-magicked-whole : (n : ℕ) (h : List ℕ) → length h ≡ 8 → magicked n h ≡ pick (sameBytes h NBDMAGIC) (Shaking n (Style [])) (Over 40)
-unfolding magicked
+magicked-whole : (n : ℕ) (h : List ℕ) → length h ≡ 8 → judgeMagic n h ≡ pick (sameBytes h NBDMAGIC) (Shaking n (Style [])) (Over 40)
+unfolding judgeMagic
 magicked-whole n h e = rw e
 
 styled-whole : (n : ℕ) (h : List ℕ) → length h ≡ 8
-    → styled n h ≡ pick (sameBytes h IHAVEOPT) (Shaking n (Newstyle 2)) (pick (sameBytes h OLDSTYLE) (oldstyle n) (Over 41))
-unfolding styled
+    → judgeStyle n h ≡ pick (sameBytes h IHAVEOPT) (Shaking n (Newstyle 2)) (pick (sameBytes h OLDSTYLE) (oldstyle n) (Over 41))
+unfolding judgeStyle
 styled-whole n h e = rw e
 
-terms-close : (n : ℕ) (old : Bool) {m m′ is os : List ℕ} {o : Outcome} {d : Device} → Moves turn (on (Shaking n (Terms old [])) m) is os (on (Closed o d) m′)
-    → (length is ≡ termsLength old + 124) × (os ≡ [])
+terms-close : (n : ℕ) (old : Bool) {m m′ is os : List ℕ} {o : Outcome} {d : Device} → Moves turn (on (Shaking n (SizeAndFlags old [])) m) is os (on (Closed o d) m′)
+    → (length is ≡ sizeAndFlagsLength old + 124) × (os ≡ [])
 terms-close n old {m = m} q =
-    let p = passes (λ h. on (termed n old h) m) (termsLength old) [] (λ h e. gathered-run (λ l. Shaking n (Terms old l)) (termed n old) (termsLength old) (terms-part n old) h m (λ _. refl) e (terms-some old)) q in
+    let p = passes (λ h. on (judgeSizeAndFlags n old h) m) (sizeAndFlagsLength old) [] (λ h e. gathered-run (λ l. Shaking n (SizeAndFlags old l)) (judgeSizeAndFlags n old) (sizeAndFlagsLength old) (terms-part n old) h m (λ _. refl) e (terms-some old)) q in
     let r = filler-closes n _ _ true 124 (rw (termed-whole n old (p .first) (p .long)) at (p .goes-on)) in
     (ap length (p .all-in) ∙ length-append (p .first) (p .rest) ∙ rw (p .long, r .0), p .all-out ∙ r .1)
 
@@ -195,7 +195,7 @@ module _ (name : List ℕ) where
   new-closes : {m′ is os : List ℕ} {o : Outcome} {d : Device} → Moves turn (on (Shaking (length name) (Newstyle 2)) name) is os (on (Closed o d) m′)
       → (length is ≡ 136) × Sent os
   new-closes q =
-      let p = passes (λ _. on (Shaking (length name) (Terms false [])) name) 2 (exportName name) (greeted-run name) q in
+      let p = passes (λ _. on (Shaking (length name) (SizeAndFlags false [])) name) 2 (exportName name) (greeted-run name) q in
       let r = terms-close (length name) false (p .goes-on) in
       (ap length (p .all-in) ∙ length-append (p .first) (p .rest) ∙ rw (p .long, r .0), inl (p .all-out ∙ rw (r .1) (append-nil (exportName name))))
 
@@ -203,12 +203,12 @@ module _ (name : List ℕ) where
       → (length is ≡ 144) × Sent os
   style-closes {m′} {o = o} {d = d} q =
       let n : ℕ = length name in
-      let p = passes (λ h. on (styled n h) name) 8 [] (λ h e. gathered-run (λ l. Shaking n (Style l)) (styled n) 8 (style-part n) h name (λ _. refl) e (omega arith)) q in
+      let p = passes (λ h. on (judgeStyle n h) name) 8 [] (λ h e. gathered-run (λ l. Shaking n (Style l)) (judgeStyle n) 8 (style-part n) h name (λ _. refl) e (omega arith)) q in
       let r = go (sameBytes (p .first) IHAVEOPT) (sameBytes (p .first) OLDSTYLE) (eqb n 0) (rw (styled-whole n (p .first) (p .long)) at (p .goes-on)) in
       (ap length (p .all-in) ∙ length-append (p .first) (p .rest) ∙ rw (p .long, r .0), rw (p .all-out) (r .1))
     where
       go : (a b c : Bool) {is os : List ℕ}
-          → Moves turn (on (pick a (Shaking (length name) (Newstyle 2)) (pick b (pick c (Shaking (length name) (Terms true [])) (Over 42)) (Over 41))) name) is os (on (Closed o d) m′)
+          → Moves turn (on (pick a (Shaking (length name) (Newstyle 2)) (pick b (pick c (Shaking (length name) (SizeAndFlags true [])) (Over 42)) (Over 41))) name) is os (on (Closed o d) m′)
           → (length is ≡ 136) × Sent os
       go true b c q = new-closes q
       go false true true q = let r = terms-close (length name) true q in (r .0, inr (r .1))
@@ -219,7 +219,7 @@ module _ (name : List ℕ) where
       → (length is ≡ 152) × Sent os
   handshake-closes {m′} {o = o} {d = d} q =
       let n : ℕ = length name in
-      let p = passes (λ h. on (magicked n h) name) 8 [] (λ h e. gathered-run (λ l. Shaking n (Magic l)) (magicked n) 8 (magic-part n) h name (λ _. refl) e (omega arith)) q in
+      let p = passes (λ h. on (judgeMagic n h) name) 8 [] (λ h e. gathered-run (λ l. Shaking n (Magic l)) (judgeMagic n) 8 (magic-part n) h name (λ _. refl) e (omega arith)) q in
       let r = go (sameBytes (p .first) NBDMAGIC) (rw (magicked-whole n (p .first) (p .long)) at (p .goes-on)) in
       (ap length (p .all-in) ∙ length-append (p .first) (p .rest) ∙ rw (p .long, r .0), rw (p .all-out) (r .1))
     where

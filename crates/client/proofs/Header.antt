@@ -15,7 +15,7 @@ use lib.ListN.{length, take, drop, length-take}
 use lib.Seq.{length-take-le, take-take, take-all}
 use Rattle.wire.specs.Fields.{field, sameBytes}
 use Rattle.wire.specs.Constants.{NBDMAGIC, IHAVEOPT, OLDSTYLE}
-use Rattle.client.specs.Session.{State, Magic, Style, Newstyle, Terms, Filler, Hearing, Shaking, Calling, Over, magicked, oldstyle, styled, termsLength, termed, replied, heard}
+use Rattle.client.specs.Session.{State, Magic, Style, Newstyle, SizeAndFlags, Filler, Hearing, Shaking, Calling, Over, judgeMagic, oldstyle, judgeStyle, sizeAndFlagsLength, judgeSizeAndFlags, replied, heard}
 use Rattle.client.specs.declared.state.Device.{Device}
 use Rattle.client.specs.declared.state.Call.{Call}
 
@@ -36,17 +36,17 @@ test-below h k to fits = go (ltb k to) refl
     go false e = let q = ltb-false k to e in sym (le-ltb (length (take k h)) to (omega (arith, length-take k h)))
 
 -- ---- more are to come
-pub magic-part : (n : ℕ) (h : List ℕ) → length h < 8 → magicked n h ≡ Shaking n (Magic h)
-unfolding magicked
+pub magic-part : (n : ℕ) (h : List ℕ) → length h < 8 → judgeMagic n h ≡ Shaking n (Magic h)
+unfolding judgeMagic
 magic-part n h p = rw (lt-ltb (length h) 8 p)
 
-pub style-part : (n : ℕ) (h : List ℕ) → length h < 8 → styled n h ≡ Shaking n (Style h)
-unfolding styled
+pub style-part : (n : ℕ) (h : List ℕ) → length h < 8 → judgeStyle n h ≡ Shaking n (Style h)
+unfolding judgeStyle
 style-part n h p = rw (lt-ltb (length h) 8 p)
 
-pub terms-part : (n : ℕ) (old : Bool) (h : List ℕ) → length h < termsLength old → termed n old h ≡ Shaking n (Terms old h)
-unfolding termed
-terms-part n old h p = rw (lt-ltb (length h) (termsLength old) p)
+pub terms-part : (n : ℕ) (old : Bool) (h : List ℕ) → length h < sizeAndFlagsLength old → judgeSizeAndFlags n old h ≡ Shaking n (SizeAndFlags old h)
+unfolding judgeSizeAndFlags
+terms-part n old h p = rw (lt-ltb (length h) (sizeAndFlagsLength old) p)
 
 pub reply-part : (d : Device) (c : Call) (h : List ℕ) → length h < 16 → heard d c h ≡ Calling d c (Hearing h)
 unfolding heard
@@ -61,41 +61,41 @@ module _ (n : ℕ) (h : List ℕ) (k : ℕ) (long : length h ≡ 16) (some : 8 �
   eight : k ≡ 8
   eight = omega arith
 
-  pub magic-right : sameBytes (take 8 h) NBDMAGIC ≡ true → Shaking n (Style []) ≡ magicked n (take k h)
-  unfolding magicked
+  pub magic-right : sameBytes (take 8 h) NBDMAGIC ≡ true → Shaking n (Style []) ≡ judgeMagic n (take k h)
+  unfolding judgeMagic
   magic-right s = rw (eight, length-take-le 8 h (omega arith), s)
 
-  pub magic-wrong : sameBytes (take 8 h) NBDMAGIC ≡ false → Over 40 ≡ magicked n (take k h)
-  unfolding magicked
+  pub magic-wrong : sameBytes (take 8 h) NBDMAGIC ≡ false → Over 40 ≡ judgeMagic n (take k h)
+  unfolding judgeMagic
   magic-wrong s = rw (eight, length-take-le 8 h (omega arith), s)
 
-  pub style-new : sameBytes (take 8 h) IHAVEOPT ≡ true → Shaking n (Newstyle 2) ≡ styled n (take k h)
-  unfolding styled
+  pub style-new : sameBytes (take 8 h) IHAVEOPT ≡ true → Shaking n (Newstyle 2) ≡ judgeStyle n (take k h)
+  unfolding judgeStyle
   style-new s = rw (eight, length-take-le 8 h (omega arith), s)
 
-  pub style-old : sameBytes (take 8 h) IHAVEOPT ≡ false → sameBytes (take 8 h) OLDSTYLE ≡ true → oldstyle n ≡ styled n (take k h)
-  unfolding styled
+  pub style-old : sameBytes (take 8 h) IHAVEOPT ≡ false → sameBytes (take 8 h) OLDSTYLE ≡ true → oldstyle n ≡ judgeStyle n (take k h)
+  unfolding judgeStyle
   style-old s t = rw (eight, length-take-le 8 h (omega arith), s, t)
 
-  pub style-other : sameBytes (take 8 h) IHAVEOPT ≡ false → sameBytes (take 8 h) OLDSTYLE ≡ false → Over 41 ≡ styled n (take k h)
-  unfolding styled
+  pub style-other : sameBytes (take 8 h) IHAVEOPT ≡ false → sameBytes (take 8 h) OLDSTYLE ≡ false → Over 41 ≡ judgeStyle n (take k h)
+  unfolding judgeStyle
   style-other s t = rw (eight, length-take-le 8 h (omega arith), s, t)
 
-pub terms-most : (old : Bool) → termsLength old ≤ 16
+pub terms-most : (old : Bool) → sizeAndFlagsLength old ≤ 16
 terms-most true = omega arith
 terms-most false = omega arith
 
-module _ (n : ℕ) (old : Bool) (h : List ℕ) (k : ℕ) (long : length h ≡ 16) (some : termsLength old ≤ k) (most : k ≤ termsLength old) where
-  pub terms-old : old ≡ true → Shaking n (Filler (field h 0 8) (field h 8 4 % 65536) true 124) ≡ termed n old (take k h)
-  unfolding termed
+module _ (n : ℕ) (old : Bool) (h : List ℕ) (k : ℕ) (long : length h ≡ 16) (some : sizeAndFlagsLength old ≤ k) (most : k ≤ sizeAndFlagsLength old) where
+  pub terms-old : old ≡ true → Shaking n (Filler (field h 0 8) (field h 8 4 % 65536) true 124) ≡ judgeSizeAndFlags n old (take k h)
+  unfolding judgeSizeAndFlags
   terms-old o =
       let p : 12 ≤ k = rw o at some in
       let q : k ≤ 12 = rw o at most in
       let e : k ≡ 12 = omega arith in
       rw (o, e, length-take-le 12 h (omega arith), take-part 0 8 12 h (omega arith), take-part 8 4 12 h (omega arith))
 
-  pub terms-new : old ≡ false → Shaking n (Filler (field h 0 8) (field h 8 2) true 124) ≡ termed n old (take k h)
-  unfolding termed
+  pub terms-new : old ≡ false → Shaking n (Filler (field h 0 8) (field h 8 2) true 124) ≡ judgeSizeAndFlags n old (take k h)
+  unfolding judgeSizeAndFlags
   terms-new o =
       let p : 10 ≤ k = rw o at some in
       let q : k ≤ 10 = rw o at most in

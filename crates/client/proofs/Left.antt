@@ -2,7 +2,7 @@
 use Prim.Native.Nat.{ℕ, zero, suc}
 use mathlib.Core.Path.{_≡_, refl}
 use mathlib.Core.Bool.{Bool}
-use Rattle.client.specs.Session.{Newstyle, Hello, Naming, Filler, Asking, Paying, Filling, Shaking, Calling, naming, greeting, newstyle, filler, filling, paying, asking}
+use Rattle.client.specs.Session.{Newstyle, Hello, Naming, Filler, Asking, Paying, Filling, Shaking, Calling, naming, greeting, newstyle, filler, filling, paying, afterRequest}
 use Rattle.client.specs.declared.state.Device.{Device}
 use Rattle.client.specs.declared.state.Call.{Call}
 
@@ -32,6 +32,6 @@ module _ (d : Device) (c : Call) where
   paying-more zero h = absurd (h refl)
   paying-more (suc left) h = refl
 
-  pub asking-more : (left : ℕ) → (left ≡ 0 → ⊥) → Calling d c (Asking left) ≡ asking d c left
+  pub asking-more : (left : ℕ) → (left ≡ 0 → ⊥) → Calling d c (Asking left) ≡ afterRequest d c left
   asking-more zero h = absurd (h refl)
   asking-more (suc left) h = refl

@@ -1,7 +1,7 @@
 pub mod Left
 pub mod Runs
 pub mod Header
-pub mod Sound
+pub mod Kept
 pub mod Refusals
 pub mod Tidy
 pub mod Numbers
@@ -9,4 +9,4 @@ pub mod Result
 pub mod Alone
 pub mod Changes
 pub mod Closing
-pub mod Cut
+pub mod Cutting

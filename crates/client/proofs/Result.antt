@@ -23,8 +23,9 @@ use Rattle.wire.specs.Numbers.{clamped}
 use Rattle.client.specs.Calls.{transfer, sought, amount, positioned, valueOf}
 use Rattle.client.specs.Session.{Magic, Asking, State, Blank, Shaking, Ready, Calling, Closed, Over, turn}
 use Rattle.client.specs.View.{view, code}
-use Rattle.client.specs.Ranges.{ranged, inRange, lent, refusal, Fits, SoundCall}
-use Rattle.client.specs.Contract.{answer, refused, may, called, opened, grantedOn, grantedAt, begun, moving, soughtTo, shakenAt, endedAt, after, outcomeOf, Drives}
+use Rattle.client.specs.Ranges.{ranged, inRange, sameLoan, refusal}
+use Rattle.client.specs.Inner.{Part, GoodCall}
+use Rattle.client.specs.Contract.{answer, refused, callCheck, called, opened, grantedOn, grantedAt, begun, moving, soughtTo, shakenAt, endedAt, after, outcomeOf, Drives}
 use Rattle.client.specs.Reached.{Ask, to-shake, to-read, to-write, to-trim, to-flush, to-resize, to-seek, to-end, answered, Reached, at-first, by-call, by-step}
 use Rattle.client.specs.declared.state.Device.{Device}
 use Rattle.client.specs.declared.state.Call.{Call}
@@ -33,10 +34,10 @@ use Rattle.client.specs.declared.state.Outcome.the-variants.{Open, Succe
 use Rattle.client.specs.declared.state.Client.{Client}
 use Rattle.client.specs.declared.Called.{Called}
 use Rattle.client.specs.declared.Stepped.{Stepped}
-use Rattle.client.specs.declared.May.{May}
-use Rattle.client.specs.declared.May.the-variants.{On, Not}
+use Rattle.client.specs.declared.CallCheck.{CallCheck}
+use Rattle.client.specs.declared.CallCheck.the-variants.{On, Not}
 use Rattle.client.proofs.Refusals.{accepted, sound-ranges, sound-lent, call-ranged}
-use Rattle.client.proofs.Sound.{sound}
+use Rattle.client.proofs.Kept.{sound}
 use Rattle.client.proofs.Tidy.{viewed, tidied}
 
 -- ---- one result
@@ -112,22 +113,22 @@ step-range {self} {m} {r = r} {m′ = m′} p h = go (refusal (length m) self) r
 
 -- ---- the calls
 -- what a transfer grants lies within the device, and within what was asked for
-transfer-fits : (d : Device) (k n : ℕ) → transfer d k ≡ some n → (n ≡ 0 → ⊥) → (n ≤ k) × Fits d n
+transfer-fits : (d : Device) (k n : ℕ) → transfer d k ≡ some n → (n ≡ 0 → ⊥) → (n ≤ k) × Part d n
 unfolding transfer
 transfer-fits d k n e some-bytes = go (eqb (d .position) (d .size)) (ltb (d .size) (d .position)) refl e
   where
     go : (a b : Bool) → ltb (d .size) (d .position) ≡ b
-        → pick a (some 0) (pick b none (some (clamped (min k (d .size - d .position))))) ≡ some n → (n ≤ k) × Fits d n
+        → pick a (some 0) (pick b none (some (clamped (min k (d .size - d .position))))) ≡ some n → (n ≤ k) × Part d n
     go true b p q = absurd (let z : 0 ≡ n = cc in some-bytes (sym z))
     go false true p q = absurd (let z : _≡_ {A = ℕ} 0 1 = cc in omega arith)
     go false false p q =
         let z : clamped (min k (d .size - d .position)) ≡ n = cc in
         (omega arith, (omega arith, omega (arith, ltb-false (d .size) (d .position) p)))
 
-opened-range : (d : Device) (c : Call) → SoundCall d c → inRange (opened d c .state) ≡ true
+opened-range : (d : Device) (c : Call) → GoodCall d c → inRange (opened d c .state) ≡ true
 opened-range d c h = coded-range (Calling d c (Asking 28)) (rw (call-ranged d c h))
 
-begun-range : (d : Device) (c : Call) → ((amount c ≡ 0 → ⊥) → SoundCall d c) → inRange (begun d c .state) ≡ true
+begun-range : (d : Device) (c : Call) → ((amount c ≡ 0 → ⊥) → GoodCall d c) → inRange (begun d c .state) ≡ true
 begun-range d c h = go (eqb (amount c) 0) refl
   where
     go : (b : Bool) → eqb (amount c) 0 ≡ b → inRange (pick b (answer (Ready d) (Succeeded (valueOf c))) (opened d c) .state) ≡ true
@@ -135,7 +136,7 @@ begun-range d c h = go (eqb (amount c) 0) refl
     go false e = opened-range d c (h (eqb-false (amount c) 0 e))
 
 module _ (s : Client) (h : inRange s ≡ true) where
-  called-range : (f : Device → Called) → ((d : Device) → inRange (f d .state) ≡ true) → (m : May) → inRange (called s f m .state) ≡ true
+  called-range : (f : Device → Called) → ((d : Device) → inRange (f d .state) ≡ true) → (m : CallCheck) → inRange (called s f m .state) ≡ true
   called-range f k (On d) = k d
   called-range f k (Not why) = h
 
@@ -143,8 +144,8 @@ module _ (s : Client) (h : inRange s ≡ true) where
   sought-range d none = h
   sought-range d (some p) = coded-range (Ready (positioned d p)) refl
 
-  moving-range : (f : ℕ → Call) (k : ℕ) → ((d : Device) (n : ℕ) → transfer d k ≡ some n → (amount (f n) ≡ 0 → ⊥) → SoundCall d (f n))
-      → (m : May) → inRange (moving s f (grantedOn k m) .state) ≡ true
+  moving-range : (f : ℕ → Call) (k : ℕ) → ((d : Device) (n : ℕ) → transfer d k ≡ some n → (amount (f n) ≡ 0 → ⊥) → GoodCall d (f n))
+      → (m : CallCheck) → inRange (moving s f (grantedOn k m) .state) ≡ true
   moving-range f k ok (Not why) = h
   moving-range f k ok (On d) = at (transfer d k) refl
     where
@@ -174,12 +175,12 @@ module _ (s : Client) (h : inRange s ≡ true) where
 
   call-range : (a : Ask) → inRange (answered a s .state) ≡ true
   call-range (to-shake n) = rw h (shaken-range n (view s))
-  call-range (to-read len) = moving-range (λ n. Read n len) len (λ d n e b. transfer-fits d len n e b) (may s)
-  call-range (to-write len) = moving-range (λ n. Write n len) len (λ d n e b. transfer-fits d len n e b) (may s)
-  call-range (to-trim len) = moving-range Trim len (λ d n e b. transfer-fits d len n e b .1) (may s)
-  call-range to-flush = called-range (λ d. opened d Flush) (λ d. opened-range d Flush tt) (may s)
-  call-range (to-resize size) = called-range (λ d. opened d (Resize size)) (λ d. opened-range d (Resize size) tt) (may s)
-  call-range (to-seek f) = called-range (λ d. soughtTo s d (sought d f)) (λ d. sought-range d (sought d f)) (may s)
+  call-range (to-read len) = moving-range (λ n. Read n len) len (λ d n e b. transfer-fits d len n e b) (callCheck s)
+  call-range (to-write len) = moving-range (λ n. Write n len) len (λ d n e b. transfer-fits d len n e b) (callCheck s)
+  call-range (to-trim len) = moving-range Trim len (λ d n e b. transfer-fits d len n e b .1) (callCheck s)
+  call-range to-flush = called-range (λ d. opened d Flush) (λ d. opened-range d Flush tt) (callCheck s)
+  call-range (to-resize size) = called-range (λ d. opened d (Resize size)) (λ d. opened-range d (Resize size) tt) (callCheck s)
+  call-range (to-seek f) = called-range (λ d. soughtTo s d (sought d f)) (λ d. sought-range d (sought d f)) (callCheck s)
   call-range to-end = rw h (ended-range (view s))
 
 -- ---- for ever

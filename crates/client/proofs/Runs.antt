@@ -16,14 +16,16 @@ use lib.Seq.{length-take-le, paste, sets, sets-eq}
 use Rattle.machine.specs.Choice.{both}
 use Rattle.machine.specs.Machine.{on, gives, Moves, still, by-take}
 use Rattle.machine.specs.Pieces.{Absorbs, Emits}
-use Rattle.machine.specs.Bulk.{Sends, Gathers}
+use Rattle.machine.proofs.Families.{Sends, Gathers}
 use Rattle.machine.proofs.Leaves.{gather-leaf, send-leaf, drop-leaf, fold-leaf}
 use Rattle.wire.specs.Fields.{be}
 use Rattle.wire.specs.Layouts.{request}
-use Rattle.client.specs.Calls.{payload, wanted, asks}
+use Rattle.client.specs.Calls.{payload, wanted, requestBytes}
 use Rattle.client.specs.Session.{Newstyle, Filler, Filling, State, Shaking, Calling, hello, newstyle, filler, filling, turn}
-use Rattle.client.specs.Ranges.{lentTo, SoundCall}
-use Rattle.machine.specs.Parts.{Gathered, Given, owing, blank}
+use Rattle.client.specs.Ranges.{lentTo}
+use Rattle.client.specs.Inner.{GoodCall}
+use Rattle.machine.specs.Parts.{owing, blank}
+use Rattle.machine.specs.Inner.{Gathered, Given}
 use Rattle.client.specs.declared.state.Device.{Device}
 use Rattle.client.specs.declared.state.Call.{Call}
 use Rattle.client.specs.declared.state.Call.the-variants.{Read, Write, Flush, Trim, Resize}
@@ -93,18 +95,18 @@ pub length-hello : (n : ℕ) → length (hello n) ≡ 20
 unfolding hello be
 length-hello n = refl
 
-pub length-asks : (d : Device) (c : Call) → length (asks d c) ≡ 28
+pub length-asks : (d : Device) (c : Call) → length (requestBytes d c) ≡ 28
 unfolding request be
 length-asks d c = refl
 
-pub paid : (d : Device) (c : Call) {k : ℕ} → lentTo c ≡ k → SoundCall d c → payload c ≤ k
+pub paid : (d : Device) (c : Call) {k : ℕ} → lentTo c ≡ k → GoodCall d c → payload c ≤ k
 paid d (Read n len) e h = omega arith
 paid d (Write n len) e h = omega arith
 paid d Flush e h = omega arith
 paid d (Trim n) e h = omega arith
 paid d (Resize size) e h = omega arith
 
-pub filled : (d : Device) (c : Call) {k : ℕ} → lentTo c ≡ k → SoundCall d c → wanted c ≤ k
+pub filled : (d : Device) (c : Call) {k : ℕ} → lentTo c ≡ k → GoodCall d c → wanted c ≤ k
 filled d (Read n len) e h = omega arith
 filled d (Write n len) e h = omega arith
 filled d Flush e h = omega arith

@@ -11,9 +11,10 @@ use native.Mathlib.Omega.{arith}
 use lib.ListN.{length, take, drop, replicate}
 use lib.Seq.{length-take-le, paste, take-append-seam, drop-append-seam}
 use Rattle.machine.proofs.Lists.{drop-replicate}
-use Rattle.client.specs.Session.{Magic, Style, Newstyle, Hello, Naming, Terms, Filler, Asking, Paying, Hearing, Filling, State, Blank, Shaking, Ready, Calling, Closed, Over}
+use Rattle.client.specs.Session.{Magic, Style, Newstyle, Hello, Naming, SizeAndFlags, Filler, Asking, Paying, Hearing, Filling, State, Blank, Shaking, Ready, Calling, Closed, Over}
 use Rattle.client.specs.View.{view, viewOf, code, used}
-use Rattle.client.specs.Ranges.{tidy, Sound}
+use Rattle.client.specs.Ranges.{tidy}
+use Rattle.client.specs.Inner.{Good}
 use Rattle.client.specs.declared.state.Handshake as hs
 use Rattle.client.specs.declared.state.Progress as pr
 use Rattle.client.specs.declared.state.Phase as ph
@@ -29,7 +30,7 @@ coded (ph.Phase.Shaking n (hs.Handshake.Style have)) h long q = rw (length-take-
 coded (ph.Phase.Shaking n (hs.Handshake.Newstyle left)) h long q = refl
 coded (ph.Phase.Shaking n (hs.Handshake.Hello left)) h long q = refl
 coded (ph.Phase.Shaking n (hs.Handshake.Naming left)) h long q = refl
-coded (ph.Phase.Shaking n (hs.Handshake.Terms old have)) h long q = rw (length-take-le have h (omega arith))
+coded (ph.Phase.Shaking n (hs.Handshake.SizeAndFlags old have)) h long q = rw (length-take-le have h (omega arith))
 coded (ph.Phase.Shaking n (hs.Handshake.Filler size flags clean left)) h long q = refl
 coded (ph.Phase.Ready d) h long q = refl
 coded (ph.Phase.Calling d c (pr.Progress.Asking left)) h long q = refl
@@ -43,14 +44,14 @@ coded (ph.Phase.Over n) h long q = refl
 few : (h : List ℕ) (k to : ℕ) → length h ≡ 16 → to ≤ 16 → length (take k h) < to → k ≤ 16
 few h k to long most below = let b = taken-below h k to (omega arith) below in omega arith
 
-pub used-fits : (k : ℕ) (p : ph.Phase) (h : List ℕ) → length h ≡ 16 → Sound k (viewOf h p) → used p ≤ 16
+pub used-fits : (k : ℕ) (p : ph.Phase) (h : List ℕ) → length h ≡ 16 → Good k (viewOf h p) → used p ≤ 16
 used-fits k ph.Phase.Blank h long q = omega arith
 used-fits k (ph.Phase.Shaking n (hs.Handshake.Magic have)) h long q = few h have 8 long (omega arith) (q .2)
 used-fits k (ph.Phase.Shaking n (hs.Handshake.Style have)) h long q = few h have 8 long (omega arith) (q .2)
 used-fits k (ph.Phase.Shaking n (hs.Handshake.Newstyle left)) h long q = omega arith
 used-fits k (ph.Phase.Shaking n (hs.Handshake.Hello left)) h long q = omega arith
 used-fits k (ph.Phase.Shaking n (hs.Handshake.Naming left)) h long q = omega arith
-used-fits k (ph.Phase.Shaking n (hs.Handshake.Terms old have)) h long q = few h have _ long (terms-most old) (q .2)
+used-fits k (ph.Phase.Shaking n (hs.Handshake.SizeAndFlags old have)) h long q = few h have _ long (terms-most old) (q .2)
 used-fits k (ph.Phase.Shaking n (hs.Handshake.Filler size flags clean left)) h long q = omega arith
 used-fits k (ph.Phase.Ready d) h long q = omega arith
 used-fits k (ph.Phase.Calling d c (pr.Progress.Asking left)) h long q = omega arith
@@ -71,7 +72,7 @@ viewed (Shaking n (Style got)) = ap (λ (l : List ℕ). Shaking n (Style l)) (go
 viewed (Shaking n (Newstyle left)) = refl
 viewed (Shaking n (Hello left)) = refl
 viewed (Shaking n (Naming left)) = refl
-viewed (Shaking n (Terms old got)) = ap (λ (l : List ℕ). Shaking n (Terms old l)) (got-back got)
+viewed (Shaking n (SizeAndFlags old got)) = ap (λ (l : List ℕ). Shaking n (SizeAndFlags old l)) (got-back got)
 viewed (Shaking n (Filler size flags clean left)) = refl
 viewed (Ready d) = refl
 viewed (Calling d c (Asking left)) = refl
@@ -98,7 +99,7 @@ tidied (Shaking n (Style got)) = rw (zeros-behind got) (blank-zeros (16 - length
 tidied (Shaking n (Newstyle left)) = refl
 tidied (Shaking n (Hello left)) = refl
 tidied (Shaking n (Naming left)) = refl
-tidied (Shaking n (Terms old got)) = rw (zeros-behind got) (blank-zeros (16 - length got))
+tidied (Shaking n (SizeAndFlags old got)) = rw (zeros-behind got) (blank-zeros (16 - length got))
 tidied (Shaking n (Filler size flags clean left)) = refl
 tidied (Ready d) = refl
 tidied (Calling d c (Asking left)) = refl

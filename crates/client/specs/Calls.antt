@@ -1,12 +1,16 @@
 -- What a call asks for and what its success gives: the one root of the calls' rules (01, "Client").
---   fieldsOf flags    "Flags set fields only if bit 0 is set"
---   transfer d k      how many bytes a read, a write or a trim of k bytes moves; none where it is refused
---   transferOf        the value that the code's answer stands for
---   sought d f        the position that a seek leads to; none where it is refused
+--   bit flags k, has flags k   whether the flags have the bit of weight k; whether they have it and bit 0
+--   fieldsOf flags             "Flags set fields only if bit 0 is set"
+--   device size flags          the device as the handshake leaves it, with its position at 0
+--   transfer d k               how many bytes a read, a write or a trim of k bytes moves; none where it is refused
+--   transferOf                 the value that the code's answer stands for
+--   sought d f                 the position that a seek leads to; none where it is refused
 --   amount, payload, wanted    how many bytes a call names in its request, sends behind it, and is sent behind the reply
---   asks d c          the 28 bytes of a call's request
---   valueOf c         the value of a call that succeeds
---   moved d c         the device after it
+--   typeOf c, offsetOf d c     the type and the offset in a call's request
+--   requestBytes d c           the 28 bytes of a call's request
+--   valueOf c                  the value of a call that succeeds
+--   positioned d p             the device with its position at p
+--   moved d c                  the device after a call that succeeds
 use Prim.Native.Nat.{ℕ, min, _+_, _-_, _/_, _%_}
 use mathlib.Core.Bool.{Bool}
 use mathlib.Core.List.{List}
@@ -100,8 +104,8 @@ offsetOf d Flush = 0
 offsetOf d (Trim n) = d .position
 offsetOf d (Resize size) = size
 
-abbrev pub asks : Device → Call → List ℕ
-asks d c = request 0 (typeOf c) 0 (offsetOf d c) (amount c)
+abbrev pub requestBytes : Device → Call → List ℕ
+requestBytes d c = request 0 (typeOf c) 0 (offsetOf d c) (amount c)
 
 -- ---- a call that succeeds
 abbrev pub valueOf : Call → Value

@@ -1,9 +1,20 @@
 -- What the public functions ensure.
---   shaken, reading, writing, flushing, trimming, resizing, seeking    the calls
---   endOfInput             the host reports the end of input
---   known                  what a user asks
---   Drives                 a step: refused, with nothing changed; or as far as the input and the room go
---   numberOf, valuesOf     01's number and values for each outcome; numberAt, valuesAt: and for each place where a step ends
+--   numberOf, valuesOf         01's number and values for each outcome
+--   fieldsValues, valuesIn     the values of an export's fields, each 0 or 1; the values of a call that succeeds
+--   fresh                      a new client
+--   answer x o, refused why s  a call's answer with the state x and the outcome o; and one that is refused, with the client as it was
+--   callCheckAt, callCheck     whether a call may be made, by the state, and by the client: 53, then 51
+--   called s f                 a call that f makes on the device, if a call may be made
+--   opened d c                 a call that goes out
+--   grantedAt, grantedOn, granted   how many bytes a call may move: on a device, behind the check, on a client
+--   begun d c, moving          a call that moves bytes: of none it succeeds at once, else it goes out; the same if it was granted
+--   reading, writing, trimming, flushing, resizing, seeking, shaken   the calls; the last is the handshake
+--   soughtTo, shakenAt         a seek, by the position that it leads to; the handshake, by the state
+--   endedAt, endOfInput        the host reports the end of input: by the state, and by the client
+--   knownAt, known             what a user asks: by the state, and by the client
+--   after x, outcomeOf x       where a client stands after a step that went as far as x, and the step's outcome
+--   numberAt, valuesAt         01's number and values for each place where a step ends
+--   Refuses, Accepts, Drives   a step: refused, with nothing changed; or as far as the input and the room go; and which of the two
 use Prim.Native.Nat.{ℕ}
 use mathlib.Core.Path.{_≡_}
 use mathlib.Core.List.{List, [], _∷_}
@@ -31,10 +42,10 @@ use Rattle.client.specs.declared.Called.{Called}
 use Rattle.client.specs.declared.Stepped.{Stepped}
 use Rattle.client.specs.declared.Info.{Info}
 use Rattle.client.specs.declared.Info.the-variants.{Known, Unknown}
-use Rattle.client.specs.declared.May.{May}
-use Rattle.client.specs.declared.May.the-variants.{On, Not}
-use Rattle.client.specs.declared.Grant.{Grant}
-use Rattle.client.specs.declared.Grant.the-variants.{Bytes, No}
+use Rattle.client.specs.declared.CallCheck.{CallCheck}
+use Rattle.client.specs.declared.CallCheck.the-variants.{On, Not}
+use Rattle.client.specs.declared.Transfer.{Transfer}
+use Rattle.client.specs.declared.Transfer.the-variants.{Bytes, No}
 
 -- ---- 01's numbers and values: "a call that succeeds answers without a number"
 abbrev pub numberOf : Outcome → Option ℕ
@@ -73,18 +84,18 @@ abbrev pub refused : ℕ → Client → Called
 refused why s = record { state = s; outcome = Refused why }
 
 -- whether a call may be made: 53, then 51, "call while one is open, before ready or after an end"
-abbrev pub mayAt : State → May
-mayAt Blank = Not 51
-mayAt (Shaking n p) = Not 51
-mayAt (Ready d) = On d
-mayAt (Calling d c p) = Not 51
-mayAt (Closed o d) = Not 51
-mayAt (Over n) = Not 51
+abbrev pub callCheckAt : State → CallCheck
+callCheckAt Blank = Not 51
+callCheckAt (Shaking n p) = Not 51
+callCheckAt (Ready d) = On d
+callCheckAt (Calling d c p) = Not 51
+callCheckAt (Closed o d) = Not 51
+callCheckAt (Over n) = Not 51
 
-abbrev pub may : Client → May
-may s = pick (inRange s) (mayAt (view s)) (Not 53)
+abbrev pub callCheck : Client → CallCheck
+callCheck s = pick (inRange s) (callCheckAt (view s)) (Not 53)
 
-abbrev pub called : Client → (Device → Called) → May → Called
+abbrev pub called : Client → (Device → Called) → CallCheck → Called
 called s f (On d) = f d
 called s f (Not why) = refused why s
 
@@ -93,22 +104,22 @@ abbrev pub opened : Device → Call → Called
 opened d c = answer (Calling d c (Asking 28)) Open
 
 -- how many bytes a call may move: then 49, "position past size"
-abbrev pub grantedAt : Device → Option ℕ → Grant
+abbrev pub grantedAt : Device → Option ℕ → Transfer
 grantedAt d none = No 49
 grantedAt d (some n) = Bytes d n
 
-abbrev pub grantedOn : ℕ → May → Grant
+abbrev pub grantedOn : ℕ → CallCheck → Transfer
 grantedOn k (On d) = grantedAt d (transfer d k)
 grantedOn k (Not why) = No why
 
-abbrev pub granted : ℕ → Client → Grant
-granted k s = grantedOn k (may s)
+abbrev pub granted : ℕ → Client → Transfer
+granted k s = grantedOn k (callCheck s)
 
 -- "n = 0 sends nothing and succeeds"
 abbrev pub begun : Device → Call → Called
 begun d c = pick (eqb (amount c) 0) (answer (Ready d) (Succeeded (valueOf c))) (opened d c)
 
-abbrev pub moving : Client → (ℕ → Call) → Grant → Called
+abbrev pub moving : Client → (ℕ → Call) → Transfer → Called
 moving s f (Bytes d n) = begun d (f n)
 moving s f (No why) = refused why s
 
@@ -123,17 +134,17 @@ abbrev pub trimming : ℕ → Client → Called
 trimming len s = moving s Trim (granted len s)
 
 abbrev pub flushing : Client → Called
-flushing s = called s (λ d. opened d Flush) (may s)
+flushing s = called s (λ d. opened d Flush) (callCheck s)
 
 abbrev pub resizing : ℕ → Client → Called
-resizing size s = called s (λ d. opened d (Resize size)) (may s)
+resizing size s = called s (λ d. opened d (Resize size)) (callCheck s)
 
 abbrev pub soughtTo : Client → Device → Option ℕ → Called
 soughtTo s d none = refused 48 s
 soughtTo s d (some p) = answer (Ready (positioned d p)) (Succeeded (value.Position p))
 
 abbrev pub seeking : SeekFrom → Client → Called
-seeking f s = called s (λ d. soughtTo s d (sought d f)) (may s)
+seeking f s = called s (λ d. soughtTo s d (sought d f)) (callCheck s)
 
 -- the handshake, by the length of the name: 53, 51, 44
 abbrev pub shakenAt : ℕ → Client → State → Called

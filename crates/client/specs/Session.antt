@@ -8,8 +8,19 @@
 -- While output is owed nothing is taken. Where a call or the handshake has just been closed the session rests, so that a step takes no byte more;
 -- the client is then ready, and its next step is idle. "Over" is the end; it rests too.
 --
---   State   where a session stands
---   turn    one byte, with the name or the buffer lent
+--   Handshake, Progress             where a handshake stands; how far an open call is
+--   State                           where a session stands
+--   hello n                         the 20 bytes that are sent before a name of n bytes
+--   judgeMagic, judgeStyle          the state after so many bytes of the first magic, and of the second
+--   oldstyle n                      the old style, which only the empty name goes on with
+--   naming, greeting, newstyle      the state when so many bytes are left of the name, of the 20 before it, of a new-style server's flags
+--   sizeAndFlagsLength, flagsOf     how long the size and the flags are in a style; the flags in these bytes
+--   judgeSizeAndFlags               the state after so many of these bytes
+--   judged, filler                  the state behind the last of the 124 bytes; the state when so many of them are left
+--   done d c                        the call has succeeded
+--   filling, paying, afterRequest   the state when so many bytes are left of a read's data, of a payload, of a request
+--   replied, heard                  the state after the 16 bytes of a reply; the state after so many of them
+--   turn                            one byte, with the name or the buffer lent
 use Prim.Native.Nat.{ℕ, zero, suc, _-_, _%_, _^_}
 use mathlib.Core.Bool.{Bool, true, false}
 use mathlib.Core.List.{List, [], _∷_, _++_}
@@ -17,11 +28,10 @@ use lib.Dec.{eqb, ltb}
 use lib.ListN.{length, set, take}
 use Rattle.machine.specs.Choice.{pick, both}
 use Rattle.machine.specs.Machine.{On, on, Turn, gives, takes, rests}
-use Rattle.machine.specs.Bulk.{less}
-use Rattle.machine.specs.Parts.{owing}
+use Rattle.machine.specs.Parts.{less, owing}
 use Rattle.wire.specs.Fields.{be, field, sameBytes}
 use Rattle.wire.specs.Constants.{NBDMAGIC, IHAVEOPT, OLDSTYLE, NBD-REPLY-MAGIC, NBD-FLAG-C-FIXED-NEWSTYLE, NBD-OPT-EXPORT-NAME}
-use Rattle.client.specs.Calls.{fieldsOf, device, payload, wanted, asks, valueOf, moved}
+use Rattle.client.specs.Calls.{fieldsOf, device, payload, wanted, requestBytes, valueOf, moved}
 use Rattle.client.specs.declared.state.Device.{Device}
 use Rattle.client.specs.declared.state.Call.{Call}
 use Rattle.client.specs.declared.state.Value.the-variants.{Opened}
@@ -34,7 +44,7 @@ pub data Handshake : Type 0 where
   Newstyle : ℕ → Handshake  -- a new-style server's flags, never judged: how many bytes are left
   Hello : ℕ → Handshake  -- so many of the 20 bytes before the name are owed
   Naming : ℕ → Handshake  -- so many bytes of the name are owed
-  Terms : Bool → List ℕ → Handshake  -- whether the style is old, and the bytes of the size and the flags so far
+  SizeAndFlags : Bool → List ℕ → Handshake  -- whether the style is old, and the bytes of the size and the flags so far
   Filler : ℕ → ℕ → Bool → ℕ → Handshake  -- the size, the flags, whether the filler was 0 so far, and how many bytes of it are left
 
 pub data Progress : Type 0 where
@@ -56,21 +66,21 @@ pub data State : Type 0 where
 unfoldable pub hello : ℕ → List ℕ
 hello n = be 4 NBD-FLAG-C-FIXED-NEWSTYLE ++ IHAVEOPT ++ be 4 NBD-OPT-EXPORT-NAME ++ be 4 n
 
-unfoldable pub magicked : ℕ → List ℕ → State
-magicked n h = pick (ltb (length h) 8) (Shaking n (Magic h)) (pick (sameBytes h NBDMAGIC) (Shaking n (Style [])) (Over 40))
+unfoldable pub judgeMagic : ℕ → List ℕ → State
+judgeMagic n h = pick (ltb (length h) 8) (Shaking n (Magic h)) (pick (sameBytes h NBDMAGIC) (Shaking n (Style [])) (Over 40))
 
 -- "only the empty name"
 abbrev pub oldstyle : ℕ → State
-oldstyle n = pick (eqb n 0) (Shaking n (Terms true [])) (Over 42)
+oldstyle n = pick (eqb n 0) (Shaking n (SizeAndFlags true [])) (Over 42)
 
-unfoldable pub styled : ℕ → List ℕ → State
-styled n h =
+unfoldable pub judgeStyle : ℕ → List ℕ → State
+judgeStyle n h =
     pick (ltb (length h) 8) (Shaking n (Style h))
     (pick (sameBytes h IHAVEOPT) (Shaking n (Newstyle 2)) (pick (sameBytes h OLDSTYLE) (oldstyle n) (Over 41)))
 
 -- the states that follow where nothing may be left
 abbrev pub naming : ℕ → ℕ → State
-naming n zero = Shaking n (Terms false [])
+naming n zero = Shaking n (SizeAndFlags false [])
 naming n (suc left) = Shaking n (Naming (suc left))
 
 abbrev pub greeting : ℕ → ℕ → State
@@ -82,14 +92,14 @@ newstyle n zero = Shaking n (Hello 20)
 newstyle n (suc left) = Shaking n (Newstyle (suc left))
 
 -- the size and the flags: "low 16 bits of the flags count"
-abbrev pub termsLength : Bool → ℕ
-termsLength old = pick old 12 10
+abbrev pub sizeAndFlagsLength : Bool → ℕ
+sizeAndFlagsLength old = pick old 12 10
 
 abbrev pub flagsOf : Bool → List ℕ → ℕ
 flagsOf old h = pick old (field h 8 4 % 2 ^ 16) (field h 8 2)
 
-unfoldable pub termed : ℕ → Bool → List ℕ → State
-termed n old h = pick (ltb (length h) (termsLength old)) (Shaking n (Terms old h)) (Shaking n (Filler (field h 0 8) (flagsOf old h) true 124))
+unfoldable pub judgeSizeAndFlags : ℕ → Bool → List ℕ → State
+judgeSizeAndFlags n old h = pick (ltb (length h) (sizeAndFlagsLength old)) (Shaking n (SizeAndFlags old h)) (Shaking n (Filler (field h 0 8) (flagsOf old h) true 124))
 
 -- "the 124 bytes when all are there"
 abbrev pub judged : ℕ → ℕ → Bool → State
@@ -112,9 +122,9 @@ abbrev pub paying : Device → Call → ℕ → State
 paying d c zero = Calling d c (Hearing [])
 paying d c (suc left) = Calling d c (Paying (suc left))
 
-abbrev pub asking : Device → Call → ℕ → State
-asking d c zero = paying d c (payload c)
-asking d c (suc left) = Calling d c (Asking (suc left))
+abbrev pub afterRequest : Device → Call → ℕ → State
+afterRequest d c zero = paying d c (payload c)
+afterRequest d c (suc left) = Calling d c (Asking (suc left))
 
 -- "Reply fields are judged after 16 bytes: signature, handle (always 0), error"
 unfoldable pub replied : Device → Call → List ℕ → State
@@ -129,15 +139,15 @@ heard d c h = pick (ltb (length h) 16) (Calling d c (Hearing h)) (replied d c h)
 -- ---- one byte
 abbrev pub turn : On State → Turn (On State)
 turn (on Blank m) = rests
-turn (on (Shaking n (Magic got)) m) = takes (λ b. on (magicked n (got ++ b ∷ [])) m)
-turn (on (Shaking n (Style got)) m) = takes (λ b. on (styled n (got ++ b ∷ [])) m)
+turn (on (Shaking n (Magic got)) m) = takes (λ b. on (judgeMagic n (got ++ b ∷ [])) m)
+turn (on (Shaking n (Style got)) m) = takes (λ b. on (judgeStyle n (got ++ b ∷ [])) m)
 turn (on (Shaking n (Newstyle left)) m) = takes (λ b. on (newstyle n (less left)) m)
 turn (on (Shaking n (Hello left)) m) = gives (owing (hello n) left) (on (greeting n (less left)) m)
 turn (on (Shaking n (Naming left)) m) = gives (owing m left) (on (naming n (less left)) m)
-turn (on (Shaking n (Terms old got)) m) = takes (λ b. on (termed n old (got ++ b ∷ [])) m)
+turn (on (Shaking n (SizeAndFlags old got)) m) = takes (λ b. on (judgeSizeAndFlags n old (got ++ b ∷ [])) m)
 turn (on (Shaking n (Filler size flags clean left)) m) = takes (λ b. on (filler n size flags (both clean (eqb b 0)) (less left)) m)
 turn (on (Ready d) m) = rests
-turn (on (Calling d c (Asking left)) m) = gives (owing (asks d c) left) (on (asking d c (less left)) m)
+turn (on (Calling d c (Asking left)) m) = gives (owing (requestBytes d c) left) (on (afterRequest d c (less left)) m)
 turn (on (Calling d c (Paying left)) m) = gives (owing (take (payload c) m) left) (on (paying d c (less left)) m)
 turn (on (Calling d c (Hearing got)) m) = takes (λ b. on (heard d c (got ++ b ∷ [])) m)
 turn (on (Calling d c (Filling left)) m) = takes (λ b. on (filling d c (less left)) (set m (wanted c - left) b))

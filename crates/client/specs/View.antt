@@ -1,11 +1,15 @@
 -- The state that a client stands for, and the one client that stands for a state.
---   view s     the state that the struct stands for
---   code x     the struct that stands for the state, with 0 in what is not used
---   used p     how many bytes of `head` the phase uses
+--   handshakeOf h, progressOf h, viewOf h     the state that a phase stands for, with the bytes h in `head`: of a handshake, of a call, of the whole
+--   view s                                    the state that the struct stands for
+--   handshakePhase, progressPhase, phaseOf    the phase that stands for a state: of a handshake, of a call, of the whole
+--   gotShaking, gotCalling, gathered          the bytes gathered so far: in a handshake, in a call, in any state
+--   padded got                                the array `head` of the bytes gathered, with 0 behind them
+--   code x                                    the struct that stands for the state, with 0 in what is not used
+--   usedShaking, usedCalling, used p          how many bytes of `head` the phase uses: of a handshake, of a call, of the whole
 use Prim.Native.Nat.{ℕ, _-_}
 use mathlib.Core.List.{List, [], _++_}
 use lib.ListN.{length, take, replicate}
-use Rattle.client.specs.Session.{Handshake, Magic, Style, Newstyle, Hello, Naming, Terms, Filler, Progress, Asking, Paying, Hearing, Filling}
+use Rattle.client.specs.Session.{Handshake, Magic, Style, Newstyle, Hello, Naming, SizeAndFlags, Filler, Progress, Asking, Paying, Hearing, Filling}
 use Rattle.client.specs.Session.{State, Blank, Shaking, Ready, Calling, Closed, Over}
 use Rattle.client.specs.declared.state.Handshake as hs
 use Rattle.client.specs.declared.state.Progress as pr
@@ -18,7 +22,7 @@ handshakeOf h (hs.Handshake.Style have) = Style (take have h)
 handshakeOf h (hs.Handshake.Newstyle left) = Newstyle left
 handshakeOf h (hs.Handshake.Hello left) = Hello left
 handshakeOf h (hs.Handshake.Naming left) = Naming left
-handshakeOf h (hs.Handshake.Terms old have) = Terms old (take have h)
+handshakeOf h (hs.Handshake.SizeAndFlags old have) = SizeAndFlags old (take have h)
 handshakeOf h (hs.Handshake.Filler size flags clean left) = Filler size flags clean left
 
 abbrev pub progressOf : List ℕ → pr.Progress → Progress
@@ -45,7 +49,7 @@ handshakePhase (Style got) = hs.Handshake.Style (length got)
 handshakePhase (Newstyle left) = hs.Handshake.Newstyle left
 handshakePhase (Hello left) = hs.Handshake.Hello left
 handshakePhase (Naming left) = hs.Handshake.Naming left
-handshakePhase (Terms old got) = hs.Handshake.Terms old (length got)
+handshakePhase (SizeAndFlags old got) = hs.Handshake.SizeAndFlags old (length got)
 handshakePhase (Filler size flags clean left) = hs.Handshake.Filler size flags clean left
 
 abbrev pub progressPhase : Progress → pr.Progress
@@ -69,7 +73,7 @@ gotShaking (Style got) = got
 gotShaking (Newstyle left) = []
 gotShaking (Hello left) = []
 gotShaking (Naming left) = []
-gotShaking (Terms old got) = got
+gotShaking (SizeAndFlags old got) = got
 gotShaking (Filler size flags clean left) = []
 
 abbrev pub gotCalling : Progress → List ℕ
@@ -100,7 +104,7 @@ usedShaking (hs.Handshake.Style have) = have
 usedShaking (hs.Handshake.Newstyle left) = 0
 usedShaking (hs.Handshake.Hello left) = 0
 usedShaking (hs.Handshake.Naming left) = 0
-usedShaking (hs.Handshake.Terms old have) = have
+usedShaking (hs.Handshake.SizeAndFlags old have) = have
 usedShaking (hs.Handshake.Filler size flags clean left) = 0
 
 abbrev pub usedCalling : pr.Progress → ℕ

@@ -18,8 +18,6 @@ ghost use mathlib.Core.List.{List};
 ghost use Prim.Native.Nat.{ℕ, _<_, _≤_};
 ghost use lib.ListN.{length, take};
 ghost use Rattle.machine.specs.Choice.{both};
-ghost use Rattle.machine.specs.Machine.{on};
-ghost use Rattle.machine.specs.Pieces.{Absorbs, Emits};
 ghost use Rattle.client.specs.Calls.{has, fieldsOf};
 ghost use Rattle.client.specs.Session.{
   Magic,
@@ -27,25 +25,24 @@ ghost use Rattle.client.specs.Session.{
   Newstyle,
   Hello,
   Naming,
-  Terms,
+  SizeAndFlags,
   Filler,
   Shaking,
   hello,
-  magicked,
+  judgeMagic,
   oldstyle,
-  styled,
+  judgeStyle,
   naming,
   greeting,
   newstyle,
-  termsLength,
-  termed,
+  sizeAndFlagsLength,
+  judgeSizeAndFlags,
   judged,
   filler,
-  turn,
 };
-ghost use Rattle.client.specs.View.{view, viewOf, handshakeOf};
+ghost use Rattle.client.specs.View.{viewOf, handshakeOf};
 ghost use Rattle.machine.specs.Parts.{blank};
-ghost use Rattle.client.specs.Ranges.{Some, SoundShaking};
+ghost use Rattle.client.specs.Inner.{Some, GoodShaking, Absorbed, Emitted};
 
 // ---- the flags
 
@@ -81,7 +78,7 @@ fn naming(name: usize, left: usize) -> Phase
     if left == 0 {
         Phase::Shaking(
             name,
-            Handshake::Terms {
+            Handshake::SizeAndFlags {
                 old: false,
                 have: 0,
             },
@@ -149,9 +146,9 @@ fn filler(name: usize, size: u64, flags: u16, clean: bool, left: usize) -> Phase
 // ---- what is judged
 
 // The first k bytes of the first magic are there.
-fn magicked(name: usize, head: [u8; 16], k: usize) -> Phase
+fn judge_magic(name: usize, head: [u8; 16], k: usize) -> Phase
     requires { ⌜ k ≤ 8 ⌝ }
-    ensures { λ r. ⌜ viewOf head r ≡ magicked name (take k head) ⌝ }
+    ensures { λ r. ⌜ viewOf head r ≡ judgeMagic name (take k head) ⌝ }
 {
     if k < 8 {
         return Phase::Shaking(name, Handshake::Magic { have: k });
@@ -167,16 +164,16 @@ fn oldstyle(name: usize) -> Phase
     ensures { λ r. ⌜ ((h : List ℕ) → viewOf h r ≡ oldstyle name) ⌝ }
 {
     if name == 0 {
-        Phase::Shaking(name, Handshake::Terms { old: true, have: 0 })
+        Phase::Shaking(name, Handshake::SizeAndFlags { old: true, have: 0 })
     } else {
         Phase::Over(42)
     }
 }
 
 // The first k bytes of the second magic are there.
-fn styled(name: usize, head: [u8; 16], k: usize) -> Phase
+fn judge_style(name: usize, head: [u8; 16], k: usize) -> Phase
     requires { ⌜ k ≤ 8 ⌝ }
-    ensures { λ r. ⌜ viewOf head r ≡ styled name (take k head) ⌝ }
+    ensures { λ r. ⌜ viewOf head r ≡ judgeStyle name (take k head) ⌝ }
 {
     if k < 8 {
         return Phase::Shaking(name, Handshake::Style { have: k });
@@ -192,19 +189,19 @@ fn styled(name: usize, head: [u8; 16], k: usize) -> Phase
 }
 
 // How long the size and the flags are.
-fn terms_length(old: bool) -> usize
-    ensures { λ r. ⌜ r ≡ termsLength old ⌝ }
+fn size_and_flags_length(old: bool) -> usize
+    ensures { λ r. ⌜ r ≡ sizeAndFlagsLength old ⌝ }
 {
     if old { 12 } else { 10 }
 }
 
 // The first k bytes of the size and the flags are there.
-fn termed(name: usize, old: bool, head: [u8; 16], k: usize) -> Phase
-    requires { ⌜ k ≤ termsLength old ⌝ }
-    ensures { λ r. ⌜ viewOf head r ≡ termed name old (take k head) ⌝ }
+fn judge_size_and_flags(name: usize, old: bool, head: [u8; 16], k: usize) -> Phase
+    requires { ⌜ k ≤ sizeAndFlagsLength old ⌝ }
+    ensures { λ r. ⌜ viewOf head r ≡ judgeSizeAndFlags name old (take k head) ⌝ }
 {
-    if k < terms_length(old) {
-        return Phase::Shaking(name, Handshake::Terms { old, have: k });
+    if k < size_and_flags_length(old) {
+        return Phase::Shaking(name, Handshake::SizeAndFlags { old, have: k });
     }
     let size = fields::read_u64(&head, 0);
     if old {
@@ -257,11 +254,11 @@ fn all_zero(clean: bool, bytes: &[u8]) -> bool
 
 fn take_magic(head: [u8; 16], name: usize, have: usize, input: &[u8]) -> Took
     requires { ⌜ (have < 8) × (0 < length (now input)) ⌝ }
-    ensures { λ r. ⌜ ((m : List ℕ) → Absorbs turn (on (Shaking name (Magic (take have head))) m) (now (input .entry)) (r .taken) (on (view (r .state)) m)) ⌝ }
+    ensures { λ r. ⌜ ((m : List ℕ) → Absorbed (Shaking name (Magic (take have head))) m (now (input .entry)) r m) ⌝ }
 {
     let mut bytes = head;
     let n = parts::gather(&mut bytes, have, 8, input);
-    let phase = magicked(name, bytes, have + n);
+    let phase = judge_magic(name, bytes, have + n);
     Took {
         state: Client { phase, head: bytes },
         taken: n,
@@ -270,11 +267,11 @@ fn take_magic(head: [u8; 16], name: usize, have: usize, input: &[u8]) -> Took
 
 fn take_style(head: [u8; 16], name: usize, have: usize, input: &[u8]) -> Took
     requires { ⌜ (have < 8) × (0 < length (now input)) ⌝ }
-    ensures { λ r. ⌜ ((m : List ℕ) → Absorbs turn (on (Shaking name (Style (take have head))) m) (now (input .entry)) (r .taken) (on (view (r .state)) m)) ⌝ }
+    ensures { λ r. ⌜ ((m : List ℕ) → Absorbed (Shaking name (Style (take have head))) m (now (input .entry)) r m) ⌝ }
 {
     let mut bytes = head;
     let n = parts::gather(&mut bytes, have, 8, input);
-    let phase = styled(name, bytes, have + n);
+    let phase = judge_style(name, bytes, have + n);
     Took {
         state: Client { phase, head: bytes },
         taken: n,
@@ -284,7 +281,7 @@ fn take_style(head: [u8; 16], name: usize, have: usize, input: &[u8]) -> Took
 // A new-style server's flags, of `count` bytes of input.
 fn skip_flags(head: [u8; 16], name: usize, left: usize, count: usize) -> Took
     requires { ⌜ 0 < left ⌝ }
-    ensures { λ r. ⌜ ((m input : List ℕ) → length input ≡ count → Absorbs turn (on (Shaking name (Newstyle left)) m) input (r .taken) (on (view (r .state)) m)) ⌝ }
+    ensures { λ r. ⌜ ((m input : List ℕ) → length input ≡ count → Absorbed (Shaking name (Newstyle left)) m input r m) ⌝ }
 {
     let n = copy::least(left, count);
     let phase = newstyle(name, left - n);
@@ -296,7 +293,7 @@ fn skip_flags(head: [u8; 16], name: usize, left: usize, count: usize) -> Took
 
 fn send_hello(head: [u8; 16], name: usize, left: usize, room: &mut [u8]) -> Gave
     requires { ⌜ (name ≤ 4096) × Some 20 left ⌝ }
-    ensures { λ r. ⌜ ((m : List ℕ) → Emits turn (on (Shaking name (Hello left)) m) (now (room .entry)) (r .given) (on (view (r .state)) m) (now (room .exit))) ⌝ }
+    ensures { λ r. ⌜ ((m : List ℕ) → Emitted (Shaking name (Hello left)) m (now (room .entry)) r (now (room .exit))) ⌝ }
 {
     let bytes = hello(name as u32);
     let n = parts::give(&bytes, left, room);
@@ -309,7 +306,7 @@ fn send_hello(head: [u8; 16], name: usize, left: usize, room: &mut [u8]) -> Gave
 
 fn send_name(head: [u8; 16], name: usize, left: usize, lent: &[u8], room: &mut [u8]) -> Gave
     requires { ⌜ (name ≡ length (now lent)) × Some name left ⌝ }
-    ensures { λ r. ⌜ Emits turn (on (Shaking name (Naming left)) (now (lent .entry))) (now (room .entry)) (r .given) (on (view (r .state)) (now (lent .entry))) (now (room .exit)) ⌝ }
+    ensures { λ r. ⌜ Emitted (Shaking name (Naming left)) (now (lent .entry)) (now (room .entry)) r (now (room .exit)) ⌝ }
 {
     let n = parts::give(lent, left, room);
     let phase = naming(name, left - n);
@@ -319,13 +316,13 @@ fn send_name(head: [u8; 16], name: usize, left: usize, lent: &[u8], room: &mut [
     }
 }
 
-fn take_terms(head: [u8; 16], name: usize, old: bool, have: usize, input: &[u8]) -> Took
-    requires { ⌜ (have < termsLength old) × (0 < length (now input)) ⌝ }
-    ensures { λ r. ⌜ ((m : List ℕ) → Absorbs turn (on (Shaking name (Terms old (take have head))) m) (now (input .entry)) (r .taken) (on (view (r .state)) m)) ⌝ }
+fn take_size_and_flags(head: [u8; 16], name: usize, old: bool, have: usize, input: &[u8]) -> Took
+    requires { ⌜ (have < sizeAndFlagsLength old) × (0 < length (now input)) ⌝ }
+    ensures { λ r. ⌜ ((m : List ℕ) → Absorbed (Shaking name (SizeAndFlags old (take have head))) m (now (input .entry)) r m) ⌝ }
 {
     let mut bytes = head;
-    let n = parts::gather(&mut bytes, have, terms_length(old), input);
-    let phase = termed(name, old, bytes, have + n);
+    let n = parts::gather(&mut bytes, have, size_and_flags_length(old), input);
+    let phase = judge_size_and_flags(name, old, bytes, have + n);
     Took {
         state: Client { phase, head: bytes },
         taken: n,
@@ -342,7 +339,7 @@ fn take_filler(
     input: &[u8],
 ) -> Took
     requires { ⌜ 0 < left ⌝ }
-    ensures { λ r. ⌜ ((m : List ℕ) → Absorbs turn (on (Shaking name (Filler size flags clean left)) m) (now (input .entry)) (r .taken) (on (view (r .state)) m)) ⌝ }
+    ensures { λ r. ⌜ ((m : List ℕ) → Absorbed (Shaking name (Filler size flags clean left)) m (now (input .entry)) r m) ⌝ }
 {
     let n = copy::least(left, input.len());
     let still = all_zero(clean, &input[..n]);
@@ -353,12 +350,12 @@ fn take_filler(
     }
 }
 
-// ---- the leaves put together
+// ---- the phases put together
 
 // Takes what the phase takes of the input.
 pub fn absorb(head: [u8; 16], name: usize, p: Handshake, input: &[u8]) -> Took
-    requires { ⌜ (0 < length (now input)) × SoundShaking name (handshakeOf head p) ⌝ }
-    ensures { λ r. ⌜ ((m : List ℕ) → Absorbs turn (on (Shaking name (handshakeOf head p)) m) (now (input .entry)) (r .taken) (on (view (r .state)) m)) ⌝ }
+    requires { ⌜ (0 < length (now input)) × GoodShaking name (handshakeOf head p) ⌝ }
+    ensures { λ r. ⌜ ((m : List ℕ) → Absorbed (Shaking name (handshakeOf head p)) m (now (input .entry)) r m) ⌝ }
 {
     match p {
         Handshake::Magic { have } => take_magic(head, name, have, input),
@@ -366,7 +363,7 @@ pub fn absorb(head: [u8; 16], name: usize, p: Handshake, input: &[u8]) -> Took
         Handshake::Newstyle { left } => skip_flags(head, name, left, input.len()),
         Handshake::Hello { .. } => idle::takes_none(Phase::Shaking(name, p), head),
         Handshake::Naming { .. } => idle::takes_none(Phase::Shaking(name, p), head),
-        Handshake::Terms { old, have } => take_terms(head, name, old, have, input),
+        Handshake::SizeAndFlags { old, have } => take_size_and_flags(head, name, old, have, input),
         Handshake::Filler {
             size,
             flags,
@@ -378,8 +375,8 @@ pub fn absorb(head: [u8; 16], name: usize, p: Handshake, input: &[u8]) -> Took
 
 // Gives what the phase owes into the room.
 pub fn emit(head: [u8; 16], name: usize, p: Handshake, lent: &[u8], room: &mut [u8]) -> Gave
-    requires { ⌜ (name ≡ length (now lent)) × (name ≤ 4096) × SoundShaking name (handshakeOf head p) ⌝ }
-    ensures { λ r. ⌜ Emits turn (on (Shaking name (handshakeOf head p)) (now (lent .entry))) (now (room .entry)) (r .given) (on (view (r .state)) (now (lent .entry))) (now (room .exit)) ⌝ }
+    requires { ⌜ (name ≡ length (now lent)) × (name ≤ 4096) × GoodShaking name (handshakeOf head p) ⌝ }
+    ensures { λ r. ⌜ Emitted (Shaking name (handshakeOf head p)) (now (lent .entry)) (now (room .entry)) r (now (room .exit)) ⌝ }
 {
     match p {
         Handshake::Magic { .. } => idle::gives_none(Phase::Shaking(name, p), head),
@@ -387,7 +384,7 @@ pub fn emit(head: [u8; 16], name: usize, p: Handshake, lent: &[u8], room: &mut [
         Handshake::Newstyle { .. } => idle::gives_none(Phase::Shaking(name, p), head),
         Handshake::Hello { left } => send_hello(head, name, left, room),
         Handshake::Naming { left } => send_name(head, name, left, lent, room),
-        Handshake::Terms { .. } => idle::gives_none(Phase::Shaking(name, p), head),
+        Handshake::SizeAndFlags { .. } => idle::gives_none(Phase::Shaking(name, p), head),
         Handshake::Filler { .. } => idle::gives_none(Phase::Shaking(name, p), head),
     }
 }

@@ -4,36 +4,28 @@ mod handshake;
 mod idle;
 mod ranges;
 pub mod state;
+mod step;
+mod transmission;
 
 use calls::Span;
-use machine::copy;
 use state::Call;
 use state::Client;
 use state::Device;
-use state::Gave;
 use state::Handshake;
-use state::Moved;
 use state::Outcome;
 use state::Phase;
 use state::Progress;
 use state::SeekFrom;
-use state::Took;
 use state::Value;
 use wire::number::Added;
 ghost use mathlib.Core.Path.{_≡_};
-ghost use mathlib.Core.List.{List};
-ghost use Prim.Native.Nat.{ℕ, _≤_};
 ghost use lib.ListN.{length};
-ghost use Rattle.machine.specs.Machine.{on};
-ghost use Rattle.machine.specs.Pieces.{Absorbs, Emits, Turns, Steps};
-ghost use Rattle.client.specs.Session.{Blank, Ready, Over, turn};
-ghost use Rattle.client.specs.View.{view, viewOf, code, used};
-ghost use Rattle.client.specs.Ranges.{Sound};
+ghost use Rattle.client.specs.Session.{Blank, Ready, Over};
 ghost use Rattle.client.specs.Contract.{
   fresh,
   answer,
   refused,
-  may,
+  callCheck,
   opened,
   granted,
   begun,
@@ -47,8 +39,6 @@ ghost use Rattle.client.specs.Contract.{
   shaken,
   endOfInput,
   known,
-  after,
-  outcomeOf,
   Drives,
 };
 ghost use Rattle.client.specs.declared.state.Outcome.the-variants as outcome;
@@ -73,13 +63,13 @@ pub enum Info {
 }
 
 // Whether a call may be made: on this device, or not, with 01's number.
-pub enum May {
+pub enum CallCheck {
     On(Device),
     Not(u8),
 }
 
 // How many bytes a call may move on this device, or none, with 01's number.
-pub enum Grant {
+pub enum Transfer {
     Bytes(Device, u32),
     No(u8),
 }
@@ -146,36 +136,6 @@ fn ended() -> Called
     }
 }
 
-// ---- the end of a step
-
-// Where a client stands after it.
-fn after(p: Phase) -> Phase
-    ensures { λ r. ⌜ (used r ≡ used p) × ((h : List ℕ) → viewOf h r ≡ after (viewOf h p)) ⌝ }
-{
-    match p {
-        Phase::Blank => p,
-        Phase::Shaking(_, _) => p,
-        Phase::Ready(_) => p,
-        Phase::Calling(_, _, _) => p,
-        Phase::Closed(_, d) => Phase::Ready(d),
-        Phase::Over(_) => p,
-    }
-}
-
-// What a step ends with.
-fn told(p: Phase) -> Outcome
-    ensures { λ r. ⌜ ((h : List ℕ) → r ≡ outcomeOf (viewOf h p)) ⌝ }
-{
-    match p {
-        Phase::Blank => Outcome::Open,
-        Phase::Shaking(_, _) => Outcome::Open,
-        Phase::Ready(_) => Outcome::Open,
-        Phase::Calling(_, _, _) => Outcome::Open,
-        Phase::Closed(o, _) => o,
-        Phase::Over(n) => Outcome::Ended(n),
-    }
-}
-
 impl Client {
     // A client before its handshake.
     pub fn new() -> Client
@@ -190,37 +150,37 @@ impl Client {
     // ---- calls
 
     // Whether a call may be made.
-    fn may(self) -> May
-        ensures { λ r. ⌜ r ≡ may self ⌝ }
+    fn call_check(self) -> CallCheck
+        ensures { λ r. ⌜ r ≡ callCheck self ⌝ }
     {
         if !ranges::in_range(self) {
-            return May::Not(53);
+            return CallCheck::Not(53);
         }
         let p = self.phase;
         match p {
-            Phase::Blank => May::Not(51),
-            Phase::Shaking(_, _) => May::Not(51),
-            Phase::Ready(d) => May::On(d),
-            Phase::Calling(_, _, _) => May::Not(51),
-            Phase::Closed(_, _) => May::Not(51),
-            Phase::Over(_) => May::Not(51),
+            Phase::Blank => CallCheck::Not(51),
+            Phase::Shaking(_, _) => CallCheck::Not(51),
+            Phase::Ready(d) => CallCheck::On(d),
+            Phase::Calling(_, _, _) => CallCheck::Not(51),
+            Phase::Closed(_, _) => CallCheck::Not(51),
+            Phase::Over(_) => CallCheck::Not(51),
         }
     }
 
     // How many bytes a call may move that is asked to move k.
-    fn granted(self, k: u64) -> Grant
+    fn granted(self, k: u64) -> Transfer
         ensures { λ r. ⌜ r ≡ granted k self ⌝ }
     {
-        let m = self.may();
+        let m = self.call_check();
         match m {
-            May::On(d) => {
+            CallCheck::On(d) => {
                 let n = calls::transfer(d, k);
                 match n {
-                    Span::Bytes(n) => Grant::Bytes(d, n),
-                    Span::Past => Grant::No(49),
+                    Span::Bytes(n) => Transfer::Bytes(d, n),
+                    Span::Past => Transfer::No(49),
                 }
             }
-            May::Not(why) => Grant::No(why),
+            CallCheck::Not(why) => Transfer::No(why),
         }
     }
 
@@ -266,8 +226,8 @@ impl Client {
         let len = buffer.len();
         let g = self.granted(len as u64);
         match g {
-            Grant::Bytes(d, n) => begun(d, Call::Read { n, len }),
-            Grant::No(why) => refused(self, why),
+            Transfer::Bytes(d, n) => begun(d, Call::Read { n, len }),
+            Transfer::No(why) => refused(self, why),
         }
     }
 
@@ -278,8 +238,8 @@ impl Client {
         let len = buffer.len();
         let g = self.granted(len as u64);
         match g {
-            Grant::Bytes(d, n) => begun(d, Call::Write { n, len }),
-            Grant::No(why) => refused(self, why),
+            Transfer::Bytes(d, n) => begun(d, Call::Write { n, len }),
+            Transfer::No(why) => refused(self, why),
         }
     }
 
@@ -288,44 +248,44 @@ impl Client {
     {
         let g = self.granted(length);
         match g {
-            Grant::Bytes(d, n) => begun(d, Call::Trim { n }),
-            Grant::No(why) => refused(self, why),
+            Transfer::Bytes(d, n) => begun(d, Call::Trim { n }),
+            Transfer::No(why) => refused(self, why),
         }
     }
 
     pub fn flush(self) -> Called
         ensures { λ r. ⌜ r ≡ flushing self ⌝ }
     {
-        let m = self.may();
+        let m = self.call_check();
         match m {
-            May::On(d) => opened(d, Call::Flush),
-            May::Not(why) => refused(self, why),
+            CallCheck::On(d) => opened(d, Call::Flush),
+            CallCheck::Not(why) => refused(self, why),
         }
     }
 
     pub fn resize(self, size: u64) -> Called
         ensures { λ r. ⌜ r ≡ resizing size self ⌝ }
     {
-        let m = self.may();
+        let m = self.call_check();
         match m {
-            May::On(d) => opened(d, Call::Resize { size }),
-            May::Not(why) => refused(self, why),
+            CallCheck::On(d) => opened(d, Call::Resize { size }),
+            CallCheck::Not(why) => refused(self, why),
         }
     }
 
     pub fn seek(self, from: SeekFrom) -> Called
         ensures { λ r. ⌜ r ≡ seeking from self ⌝ }
     {
-        let m = self.may();
+        let m = self.call_check();
         match m {
-            May::On(d) => {
+            CallCheck::On(d) => {
                 let to = calls::sought(d, from);
                 match to {
                     Added::Sum(p) => ready(calls::positioned(d, p), Value::Position(p)),
                     Added::Outside => refused(self, 48),
                 }
             }
-            May::Not(why) => refused(self, why),
+            CallCheck::Not(why) => refused(self, why),
         }
     }
 
@@ -370,103 +330,10 @@ impl Client {
 
     // ---- a step
 
-    // Takes what the phase takes of the input.
-    fn absorb(self, input: &[u8], lent: &mut [u8]) -> Took
-        requires { ⌜ Sound (length (now lent)) (view self) ⌝ }
-        ensures { λ r. ⌜ Absorbs turn (on (view self) (now (lent .entry))) (now (input .entry)) (r .taken) (on (view (r .state)) (now (lent .exit))) ⌝ }
-    {
-        if input.len() == 0 {
-            return Took {
-                state: self,
-                taken: 0,
-            };
-        }
-        let head = self.head;
-        let p = self.phase;
-        match p {
-            Phase::Blank => idle::takes_none(p, head),
-            Phase::Shaking(name, h) => handshake::absorb(head, name, h, input),
-            Phase::Ready(_) => idle::takes_none(p, head),
-            Phase::Calling(d, c, g) => calls::absorb(head, d, c, g, input, lent),
-            Phase::Closed(_, _) => idle::takes_none(p, head),
-            Phase::Over(_) => idle::takes_none(p, head),
-        }
-    }
-
-    // Gives what the phase owes into the room.
-    fn emit(self, lent: &[u8], room: &mut [u8]) -> Gave
-        requires { ⌜ Sound (length (now lent)) (view self) ⌝ }
-        ensures { λ r. ⌜ Emits turn (on (view self) (now (lent .entry))) (now (room .entry)) (r .given) (on (view (r .state)) (now (lent .entry))) (now (room .exit)) ⌝ }
-    {
-        let head = self.head;
-        let p = self.phase;
-        match p {
-            Phase::Blank => idle::gives_none(p, head),
-            Phase::Shaking(name, h) => handshake::emit(head, name, h, lent, room),
-            Phase::Ready(_) => idle::gives_none(p, head),
-            Phase::Calling(d, c, g) => calls::emit(head, d, c, g, lent, room),
-            Phase::Closed(_, _) => idle::gives_none(p, head),
-            Phase::Over(_) => idle::gives_none(p, head),
-        }
-    }
-
-    // Takes, and then gives, as far as one phase goes each.
-    fn turn(self, input: &[u8], room: &mut [u8], lent: &mut [u8]) -> Moved
-        requires { ⌜ Sound (length (now lent)) (view self) ⌝ }
-        ensures { λ r. ⌜ Turns turn (on (view self) (now (lent .entry))) (now (input .entry)) (now (room .entry)) (r .taken) (r .given) (on (view (r .state)) (now (lent .exit))) (now (room .exit)) ⌝ }
-    {
-        let t = self.absorb(input, lent);
-        let mid = t.state;
-        let g = mid.emit(lent, room);
-        let state = g.state;
-        Moved {
-            state,
-            taken: t.taken,
-            given: g.given,
-        }
-    }
-
-    // Takes and gives as far as the input and the room go.
-    fn advance(self, input: &[u8], room: &mut [u8], lent: &mut [u8]) -> Moved
-        requires { ⌜ Sound (length (now lent)) (view self) ⌝ }
-        ensures { λ r. ⌜ Steps turn (on (view self) (now (lent .entry))) (now (input .entry)) (now (room .entry)) (r .taken) (r .given) (on (view (r .state)) (now (lent .exit))) (now (room .exit)) ⌝ }
-    {
-        let mut s = self;
-        let mut i = 0;
-        let mut o = 0;
-        loop {
-            let r = s.turn(&input[i..], &mut room[o..], lent);
-            s = r.state;
-            i += r.taken;
-            o += r.given;
-            if r.taken + r.given == 0 {
-                break;
-            }
-        }
-        Moved {
-            state: s,
-            taken: i,
-            given: o,
-        }
-    }
-
-    // The client as it is handed back, with 0 in the bytes of `head` that are not in use.
-    fn rested(self) -> Client
-        requires { ⌜ used (self .phase) ≤ 16 ⌝ }
-        ensures { λ r. ⌜ r ≡ code (after (view self)) ⌝ }
-    {
-        let p = self.phase;
-        let phase = after(p);
-        let k = ranges::used(phase);
-        let old = self.head;
-        let mut head = [0u8; 16];
-        copy::copy_part(&old, 0, &mut head, 0, k);
-        Client { phase, head }
-    }
-
     // Takes input and gives output as far as both go. What is lent is the name or the open call's buffer.
     pub fn step(self, input: &[u8], room: &mut [u8], lent: &mut [u8]) -> Stepped
-        ensures { λ r. ⌜ Drives self (now (lent .entry)) (now (input .entry)) (now (room .entry)) r (now (lent .exit)) (now (room .exit)) ⌝ }
+        ensures { λ r. ⌜ Drives self (now (lent .entry)) (now (input .entry)) (now (room .entry))
+            r (now (lent .exit)) (now (room .exit)) ⌝ }
     {
         let why = ranges::refusal(self, lent.len());
         if why != 0 {
@@ -477,11 +344,11 @@ impl Client {
                 outcome: Outcome::Refused(why),
             };
         }
-        let r = self.advance(input, room, lent);
+        let r = step::advance(self, input, room, lent);
         let end = r.state;
         let p = end.phase;
-        let outcome = told(p);
-        let state = end.rested();
+        let outcome = step::outcome_of(p);
+        let state = step::canonical(end);
         Stepped {
             state,
             taken: r.taken,

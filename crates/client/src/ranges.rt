@@ -7,31 +7,27 @@ use crate::state::Handshake;
 use crate::state::Phase;
 use crate::state::Progress;
 use machine::parts;
+use machine::tests::between;
+use machine::tests::both;
+use machine::tests::within;
 ghost use mathlib.Core.Path.{_≡_};
 ghost use mathlib.Core.List.{List};
 ghost use Prim.Native.Nat.{ℕ};
-ghost use Rattle.machine.specs.Choice.{between};
 ghost use Rattle.client.specs.View.{viewOf, handshakeOf, progressOf, usedShaking, usedCalling, used};
 ghost use Rattle.client.specs.Ranges.{
   rangedShaking,
-  fits,
+  part,
   rangedCall,
   rangedProgress,
   ends,
   ranged,
   inRange,
   lentTo,
-  lent,
+  sameLoan,
   refusal,
 };
 
 // ---- the ranges
-
-fn between(lo: usize, hi: usize, n: usize) -> bool
-    ensures { λ r. ⌜ r ≡ between lo hi n ⌝ }
-{
-    if lo <= n { n <= hi } else { false }
-}
 
 fn ranged_shaking(head: [u8; 16], name: usize, p: Handshake) -> bool
     ensures { λ r. ⌜ r ≡ rangedShaking name (handshakeOf head p) ⌝ }
@@ -42,34 +38,29 @@ fn ranged_shaking(head: [u8; 16], name: usize, p: Handshake) -> bool
         Handshake::Newstyle { left } => between(1, 2, left),
         Handshake::Hello { left } => between(1, 20, left),
         Handshake::Naming { left } => between(1, name, left),
-        Handshake::Terms { old, have } => if old { have < 12 } else { have < 10 },
+        Handshake::SizeAndFlags { old, have } => if old { have < 12 } else { have < 10 },
         Handshake::Filler { left, .. } => between(1, 124, left),
     }
 }
 
 // Whether there are some bytes from the position on, and none past the size.
-fn fits(d: Device, n: u32) -> bool
-    ensures { λ r. ⌜ r ≡ fits d n ⌝ }
+fn part(d: Device, n: u32) -> bool
+    ensures { λ r. ⌜ r ≡ part d n ⌝ }
 {
-    let k = n as u64;
-    if k == 0 {
-        return false;
-    }
-    if k <= d.size {
-        d.position <= d.size - k
-    } else {
-        false
-    }
+    both(
+        0 < n,
+        within(d.position as usize, n as usize, d.size as usize),
+    )
 }
 
 fn ranged_call(d: Device, c: Call) -> bool
     ensures { λ r. ⌜ r ≡ rangedCall d c ⌝ }
 {
     match c {
-        Call::Read { n, len } => if n as usize <= len { fits(d, n) } else { false },
-        Call::Write { n, len } => if n as usize <= len { fits(d, n) } else { false },
+        Call::Read { n, len } => if n as usize <= len { part(d, n) } else { false },
+        Call::Write { n, len } => if n as usize <= len { part(d, n) } else { false },
         Call::Flush => true,
-        Call::Trim { n } => fits(d, n),
+        Call::Trim { n } => part(d, n),
         Call::Resize { .. } => true,
     }
 }
@@ -131,7 +122,7 @@ fn used_shaking(p: Handshake) -> usize
         Handshake::Newstyle { .. } => 0,
         Handshake::Hello { .. } => 0,
         Handshake::Naming { .. } => 0,
-        Handshake::Terms { have, .. } => have,
+        Handshake::SizeAndFlags { have, .. } => have,
         Handshake::Filler { .. } => 0,
     }
 }
@@ -189,8 +180,8 @@ fn lent_to(c: Call) -> usize
 }
 
 // Whether what is lent, k bytes, has the length that it had at the start.
-fn lent(p: Phase, k: usize) -> bool
-    ensures { λ r. ⌜ ((h : List ℕ) → r ≡ lent k (viewOf h p)) ⌝ }
+fn same_loan(p: Phase, k: usize) -> bool
+    ensures { λ r. ⌜ ((h : List ℕ) → r ≡ sameLoan k (viewOf h p)) ⌝ }
 {
     match p {
         Phase::Blank => true,
@@ -208,7 +199,7 @@ pub fn refusal(s: Client, k: usize) -> u8
 {
     if in_range(s) {
         let p = s.phase;
-        if lent(p, k) { 0 } else { 52 }
+        if same_loan(p, k) { 0 } else { 52 }
     } else {
         53
     }

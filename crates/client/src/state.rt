@@ -78,7 +78,7 @@ pub enum Handshake {
         left: usize,
     },
     // the size and the flags, in the old style or in the new
-    Terms {
+    SizeAndFlags {
         old: bool,
         have: usize,
     },

@@ -1,8 +1,9 @@
 -- Places of a line.
---   Behind at n i   i is a place of a line of n bytes, not before `at`
---   NumberIn n      a number ends within the line
---   NameIn k n      a name of at most k bytes ends within the line
---   GlyphIn at n    what stands at a place ends within the line, and behind it
+--   Behind at n i       i is a place of a line of n bytes, not before `at`
+--   NumberIn n          a number ends within the line
+--   Fits k n len next   a name of len bytes has at most k of them, and ends at a place within the line
+--   NameIn k n          a name of at most k bytes ends within the line
+--   GlyphIn n           what stands at a place ends within the line
 use Prim.Native.Nat.{ℕ, _≤_}
 use Rattle.host.specs.declared.text.Number as num
 use Rattle.host.specs.declared.text.Name as nam

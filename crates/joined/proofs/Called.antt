@@ -13,13 +13,13 @@ use lib.Dec.{eqb, ltb}
 use lib.ListN.{length}
 use Rattle.machine.specs.Choice.{pick}
 use Rattle.machine.specs.Machine.{On, on, Keeps}
-use Rattle.machine.specs.Bulk.{less}
+use Rattle.machine.specs.Parts.{less}
 use Rattle.machine.proofs.Moves.{kept}
 use Rattle.wire.specs.Fields.{field, sameBytes}
 use Rattle.wire.specs.Constants.{NBDMAGIC, IHAVEOPT, OLDSTYLE, NBD-REPLY-MAGIC}
 use Rattle.client.specs.Calls.{payload, wanted}
-use Rattle.client.specs.Session.{Magic, Style, Newstyle, Hello, Naming, Terms, Filler, Asking, Paying, Hearing, Filling, State, Blank, Shaking, Ready, Calling, Closed, Over}
-use Rattle.client.specs.Session.{magicked, styled, naming, greeting, newstyle, termsLength, termed, filler, filling, paying, asking, replied, heard, turn}
+use Rattle.client.specs.Session.{Magic, Style, Newstyle, Hello, Naming, SizeAndFlags, Filler, Asking, Paying, Hearing, Filling, State, Blank, Shaking, Ready, Calling, Closed, Over}
+use Rattle.client.specs.Session.{judgeMagic, judgeStyle, naming, greeting, newstyle, sizeAndFlagsLength, judgeSizeAndFlags, filler, filling, paying, afterRequest, replied, heard, turn}
 use Rattle.client.specs.View.{view}
 use Rattle.client.specs.Ranges.{inRange, refusal}
 use Rattle.client.specs.Contract.{shaken, answer, after, Drives}
@@ -80,7 +80,7 @@ module _ (d : Device) (c : Call) where
   paid zero = tt
   paid (suc l) = tt
 
-  asked : (l : ℕ) → NotBlank (asking d c l)
+  asked : (l : ℕ) → NotBlank (afterRequest d c l)
   asked zero = paid (payload c)
   asked (suc l) = tt
 
@@ -90,17 +90,17 @@ module _ (d : Device) (c : Call) where
       by-test (ltb (length h) 16) _ _ tt
       (by-test (eqb (field h 0 4) NBD-REPLY-MAGIC) _ _ (by-test (eqb (field h 8 8) 0) _ _ (by-test (eqb (field h 4 4) 0) _ _ (read-on (wanted c)) tt) tt) tt)
 
-magic : (n : ℕ) (h : List ℕ) → NotBlank (magicked n h)
-unfolding magicked
+magic : (n : ℕ) (h : List ℕ) → NotBlank (judgeMagic n h)
+unfolding judgeMagic
 magic n h = by-test (ltb (length h) 8) _ _ tt (by-test (sameBytes h NBDMAGIC) _ _ tt tt)
 
-style : (n : ℕ) (h : List ℕ) → NotBlank (styled n h)
-unfolding styled
+style : (n : ℕ) (h : List ℕ) → NotBlank (judgeStyle n h)
+unfolding judgeStyle
 style n h = by-test (ltb (length h) 8) _ _ tt (by-test (sameBytes h IHAVEOPT) _ _ tt (by-test (sameBytes h OLDSTYLE) _ _ (by-test (eqb n 0) _ _ tt tt) tt))
 
-terms : (n : ℕ) (old : Bool) (h : List ℕ) → NotBlank (termed n old h)
-unfolding termed
-terms n old h = by-test (ltb (length h) (termsLength old)) _ _ tt tt
+terms : (n : ℕ) (old : Bool) (h : List ℕ) → NotBlank (judgeSizeAndFlags n old h)
+unfolding judgeSizeAndFlags
+terms n old h = by-test (ltb (length h) (sizeAndFlagsLength old)) _ _ tt tt
 
 keeps-called : Keeps turn NotBlankOn
 keeps-called (on Blank m) h = tt
@@ -109,7 +109,7 @@ keeps-called (on (Shaking n (Style got)) m) h = λ b. style n (got ++ b ∷ [])
 keeps-called (on (Shaking n (Newstyle left)) m) h = λ b. newly n (less left)
 keeps-called (on (Shaking n (Hello left)) m) h = greeted n (less left)
 keeps-called (on (Shaking n (Naming left)) m) h = named n (less left)
-keeps-called (on (Shaking n (Terms old got)) m) h = λ b. terms n old (got ++ b ∷ [])
+keeps-called (on (Shaking n (SizeAndFlags old got)) m) h = λ b. terms n old (got ++ b ∷ [])
 keeps-called (on (Shaking n (Filler size flags clean left)) m) h = λ b. filled n size flags _ (less left)
 keeps-called (on (Ready d) m) h = tt
 keeps-called (on (Calling d c (Asking left)) m) h = asked d c (less left)

@@ -27,7 +27,7 @@ use Rattle.server.specs.Exchanges.{Fits}
 use Rattle.server.proofs.Session.{each-dropped}
 use Rattle.server.proofs.Window.{stored}
 use Rattle.server.proofs.Requests.{request-judged, whole-read, whole-write, whole-write-read-only, whole-flush, whole-trim}
-use Rattle.client.specs.Calls.{payload, wanted, asks, valueOf, moved, positioned}
+use Rattle.client.specs.Calls.{payload, wanted, requestBytes, valueOf, moved, positioned}
 use Rattle.client.specs.Session.{Asking, Calling}
 use Rattle.client.specs.declared.state.Device.{Device}
 use Rattle.client.specs.declared.state.Call as request
@@ -35,7 +35,8 @@ use Rattle.client.specs.declared.state.Call.the-variants.{Read, Write, Flush, T
 use Rattle.client.specs.declared.state.Outcome.the-variants.{Succeeded, Failed}
 use Rattle.client.proofs.Alone.{call-alone, call-fails}
 use Rattle.joined.specs.Disk as plain
-use Rattle.joined.specs.Disk.{Disk, here, Call, read, write, seek, flush, trim, Result, readResult, writeResult, trimResult, seekResult, result, readAfter, writeAfter, seekAfter, after, results, final}
+use Rattle.wire.specs.Results.{Result}
+use Rattle.joined.specs.Disk.{Disk, here, Call, read, write, seek, flush, trim, readResult, writeResult, trimResult, seekResult, result, readAfter, writeAfter, seekAfter, after, results, final}
 use Rattle.joined.specs.Said.{ifSent, asking, question, answer, questions, answers}
 use Rattle.joined.specs.Code.{resultOf}
 use Rattle.joined.proofs.Driver.{Driver, busy, over, granted, soughtAt, going, next, drive}
@@ -93,9 +94,9 @@ module _ (t : List ℕ) (e : Export) (front behind : List ℕ) (starts : length 
     inside = omega (arith, image-length front behind (k .bytes), a .whole)
 
     well : (c : request.Call) (buf data′ : List ℕ) {y : On server.State} (k′ : Disk) → payload c ≤ length buf → length data′ ≡ wanted c
-        → Moves (server.turn t) (at k) (asks d c ++ take (payload c) buf) [] y
-        → Moves (server.turn t) (at k) (asks d c ++ take (payload c) buf) (simpleReply 0 0 ++ data′) (at k′) → Agrees e (moved d c) k′
-        → Spoken (sends c buf) k ks (rs ++ resultOf (Succeeded (valueOf c)) (sets buf 0 data′) ∷ []) k′ (asks d c ++ take (payload c) buf) (simpleReply 0 0 ++ data′)
+        → Moves (server.turn t) (at k) (requestBytes d c ++ take (payload c) buf) [] y
+        → Moves (server.turn t) (at k) (requestBytes d c ++ take (payload c) buf) (simpleReply 0 0 ++ data′) (at k′) → Agrees e (moved d c) k′
+        → Spoken (sends c buf) k ks (rs ++ resultOf (Succeeded (valueOf c)) (sets buf 0 data′) ∷ []) k′ (requestBytes d c ++ take (payload c) buf) (simpleReply 0 0 ++ data′)
     well c buf data′ k′ fits l p q b = record {
       device = moved d c;
       talk = talk-whole (follows ks rs (asks-sent d c buf fits)) (follows ks rs (call-alone d c buf fits data′ l)) p q;
@@ -103,9 +104,9 @@ module _ (t : List ℕ) (e : Export) (front behind : List ℕ) (starts : length 
     }
 
     ill : (c : request.Call) (buf : List ℕ) {y : On server.State} (error : ℕ) → payload c ≤ length buf → error < 2 ^ 32 → (error ≡ 0 → ⊥)
-        → Moves (server.turn t) (at k) (asks d c ++ take (payload c) buf) [] y
-        → Moves (server.turn t) (at k) (asks d c ++ take (payload c) buf) (simpleReply error 0) (at k)
-        → Spoken (sends c buf) k ks (rs ++ resultOf (Failed error) buf ∷ []) k (asks d c ++ take (payload c) buf) (simpleReply error 0)
+        → Moves (server.turn t) (at k) (requestBytes d c ++ take (payload c) buf) [] y
+        → Moves (server.turn t) (at k) (requestBytes d c ++ take (payload c) buf) (simpleReply error 0) (at k)
+        → Spoken (sends c buf) k ks (rs ++ resultOf (Failed error) buf ∷ []) k (requestBytes d c ++ take (payload c) buf) (simpleReply error 0)
     ill c buf error fits h ne p q = record {
       device = d;
       talk = talk-whole (follows ks rs (asks-sent d c buf fits)) (follows ks rs (call-fails d c buf fits error h ne)) p q;
@@ -130,7 +131,7 @@ module _ (t : List ℕ) (e : Export) (front behind : List ℕ) (starts : length 
         let q = whole-read t img e 0 0 (d .position) (omega arith) (omega (arith, a .same-position, a .whole)) n h any (omega (arith, a .same-position, a .whole)) inside in
         let w : sets buf 0 data′ ≡ here k n ++ drop n buf =
         sets-eq data′ buf 0 (omega arith) ∙ (let z : 0 + length data′ ≡ n = omega arith in rw (z, a .same-position)) in
-        let u : asks d c ++ [] ≡ asking NBD-CMD-READ k n = append-nil (asks d c) ∙ at-position NBD-CMD-READ n in
+        let u : requestBytes d c ++ [] ≡ asking NBD-CMD-READ k n = append-nil (requestBytes d c) ∙ at-position NBD-CMD-READ n in
         let v : data′ ≡ here k n = ap (λ (p : ℕ). take n (drop p (k .bytes))) (a .same-position) in
         rw (w, u, v) at
         (well c buf data′ (readAfter k (some n)) (omega arith) l (no-payload p) (no-payload (rw (window-back front behind e (k .bytes) starts (a .whole)) at q))
@@ -184,7 +185,7 @@ module _ (t : List ℕ) (e : Export) (front behind : List ℕ) (starts : length 
         let c = Trim n in
         let p = request-judged t img e 0 (fields NBD-CMD-TRIM n (omega arith) h any g) in
         let q = whole-trim t img e 0 0 (d .position) (omega arith) (omega (arith, a .same-position, a .whole)) n h in
-        let u : asks d c ++ [] ≡ asking NBD-CMD-TRIM k n = append-nil (asks d c) ∙ at-position NBD-CMD-TRIM n in
+        let u : requestBytes d c ++ [] ≡ asking NBD-CMD-TRIM k n = append-nil (requestBytes d c) ∙ at-position NBD-CMD-TRIM n in
         rw u at (ill c [] 38 (omega arith) (omega arith) (λ z. omega arith) (no-payload p) (no-payload q))
 
     flush-out : Spoken (sends Flush []) k ks (rs ++ resultOf (Succeeded (valueOf Flush)) [] ∷ []) k (request′ 0 NBD-CMD-FLUSH 0 0 0) (simpleReply 0 0)
@@ -193,7 +194,7 @@ module _ (t : List ℕ) (e : Export) (front behind : List ℕ) (starts : length 
         let f : Fits NBD-CMD-FLUSH 0 0 0 = record { type-fits = omega arith; handle-fits = omega arith; offset-fits = omega arith; len-fits = omega arith } in
         let p = request-judged t img e 0 f in
         let q = whole-flush t img e 0 0 0 (omega arith) (omega arith) 0 (omega arith) in
-        rw (append-nil (asks d c), append-nil (simpleReply 0 0)) at (well c [] [] k (omega arith) refl (no-payload p) (no-payload (no-data q)) a)
+        rw (append-nil (requestBytes d c), append-nil (simpleReply 0 0)) at (well c [] [] k (omega arith) refl (no-payload p) (no-payload (no-data q)) a)
 
     -- ---- by how many bytes are moved
     abbrev more : Device → List Result → Driver

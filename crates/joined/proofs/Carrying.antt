@@ -9,7 +9,7 @@ use mathlib.Core.List.{List}
 use native.Mathlib.Omega.{arith}
 use Rattle.machine.specs.Machine.{On, on, Turn, gives, takes, rests, owes, wants}
 use Rattle.machine.specs.Follows.{through}
-use Rattle.machine.specs.Bytes.{Bytes}
+use Rattle.machine.specs.Traffic.{Traffic}
 use Rattle.machine.specs.Wires.{Sys, Who, Move, client-gives, client-takes, server-gives, server-takes}
 use Rattle.machine.proofs.Runs.{gives-some, takes-some}
 use Rattle.server.specs.Session.{State, turn as serve}
@@ -22,7 +22,8 @@ use Rattle.client.specs.declared.state.Client.{Client}
 use Rattle.client.specs.declared.state.Device.{Device}
 use Rattle.client.proofs.Refusals.{in-range}
 use Rattle.client.proofs.Result.{in-ranges}
-use Rattle.joined.specs.Disk.{Call, Result}
+use Rattle.wire.specs.Results.{Result}
+use Rattle.joined.specs.Disk.{Call}
 use Rattle.joined.specs.Code.{joint, Unclosed, ClientCarries, ServerCarries}
 use Rattle.joined.proofs.Driver.{Driver, busy, settle, drive}
 use Rattle.joined.proofs.Coded.{Fit, stands}
@@ -53,7 +54,7 @@ module _ {t : List ℕ} {c : Client} {s : Server} {img : List ℕ} (m : List ℕ
   through-turn : {x : Turn Driver} → drive (settle (on (view c) m) ks rs) ≡ x → through (λ y. settle y ks rs) (turn (on (view c) m)) ≡ x
   through-turn q = ap drive (sym unsettled) ∙ q
 
-  pub carried : {cu cd : ℕ} {u d : List ℕ} {w : Who} {b : Bytes} {y : Sys Driver (On State)}
+  pub carried : {cu cd : ℕ} {u d : List ℕ} {w : Who} {b : Traffic} {y : Sys Driver (On State)}
       → Move drive (serve t) cu cd w b (stands (joint c m ks rs s img u d)) y → ClientCarries cu c m u d ⊎ ServerCarries t cd s img u d
   carried (client-gives q h) =
       inl λ room r m′ room′ l p. gives-some (p .accepts (fit .client-fits) .steps) (sym (owes-through (λ y. settle y ks rs) (turn (on (view c) m))) ∙ ap owes (through-turn q)) (l h)

@@ -6,10 +6,11 @@ use Rattle.wire.specs.Layouts.{greeting, optionRequest, optionReply, optionRepl
 use Rattle.wire.specs.Table.{wireFlags}
 use Rattle.wire.specs.Numbers.{added}
 use Rattle.server.specs.Request.{owed}
-use Rattle.server.specs.Session.{flagged, opted, payload, answered, listReplies, requested}
-use Rattle.client.specs.Session.{hello, magicked, styled}
-use Rattle.joined.specs.Cases.{same, cases}
+use Rattle.server.specs.Session.{judgeFlags, judgeOption, payload, answered, listReplies, requested}
+use Rattle.client.specs.Session.{hello, judgeMagic, judgeStyle}
+use Rattle.wire.specs.Cases.{same}
+use Rattle.joined.specs.Cases.{cases}
 
 pub all-cases : same cases ≡ true
-unfolding be number sameBytes greeting optionRequest optionReply optionReplyHead request simpleReply wireFlags added owed flagged opted payload answered listReplies requested hello magicked styled
+unfolding be number sameBytes greeting optionRequest optionReply optionReplyHead request simpleReply wireFlags added owed judgeFlags judgeOption payload answered listReplies requested hello judgeMagic judgeStyle
 all-cases = refl

@@ -9,7 +9,7 @@ use mathlib.Core.List.{List, _++_}
 use borrow.Author.Tests.{eq-eqb, le-leb}
 use lib.ListN.{length, take, drop}
 use Rattle.machine.specs.Machine.{On, on}
-use Rattle.machine.specs.Bytes.{Bytes, client-bytes}
+use Rattle.machine.specs.Traffic.{Traffic, client-bytes}
 use Rattle.machine.specs.Wires.{Sys, sys, Exec, done}
 use Rattle.machine.proofs.Follows.{follows-goes}
 use Rattle.machine.proofs.Pieces.{exec-then, client-goes, server-goes}
@@ -29,7 +29,8 @@ use Rattle.client.specs.declared.state.Client.{Client}
 use Rattle.client.specs.declared.Stepped as driven
 use Rattle.client.proofs.Tidy.{viewed}
 use Rattle.client.proofs.Result.{goes-on, in-ranges}
-use Rattle.joined.specs.Disk.{Call, read, write, seek, flush, trim, Result}
+use Rattle.wire.specs.Results.{Result}
+use Rattle.joined.specs.Disk.{Call, read, write, seek, flush, trim}
 use Rattle.joined.specs.Code.{Code, joint, seekFrom, calls, buffer, collected, Ready, Move, client-step, server-step, shake, call, Runs, stop, move}
 use Rattle.joined.proofs.Called.{still-blank, begun}
 use Rattle.joined.proofs.Driver.{Driver, settle, drive}
@@ -104,7 +105,7 @@ pub stepped : (ks : List Call) (rs : List Result) (r : driven.Stepped) (x : clie
 stepped ks rs r x m p q = rw (p, q, viewed (after x), told ks rs x m)
 
 module _ {t : List ℕ} {cu cd : ℕ} where
-  pub move-exec : {b : Bytes} {x z : Code} → Move t cu cd b x z → Fits t x → Exec drive (turn t) cu cd b (stands x) (stands z) × Fits t z
+  pub move-exec : {b : Traffic} {x z : Code} → Move t cu cd b x z → Fits t x → Exec drive (turn t) cu cd b (stands x) (stands z) × Fits t z
   move-exec (client-step {c = c} {m = m} {ks = ks} {rs = rs} {s = s} {img = img} {u = u} {d = d} n room r m′ room′ h p) f =
       let a = p .accepts (f .client-fits) in
       let g : Exec drive (turn t) cu cd (client-bytes (take (r .taken) d) (take (r .given) room′)) (sys (settle (on (view c) m) ks rs) (on (viewed-server s) img) u d)
@@ -117,7 +118,7 @@ module _ {t : List ℕ} {cu cd : ℕ} where
   move-exec (call {c = c} {m = m} {ks = ks} {rs = rs} k r y e) f =
       (rw (e, already k c (y .device) (y .rests) (in-ranges (f .reached)) m ks rs) done, rw e (fit-call k y f))
 
-  pub runs-exec : {b : Bytes} {x z : Code} → Runs t cu cd b x z → Fits t x → Exec drive (turn t) cu cd b (stands x) (stands z) × Fits t z
+  pub runs-exec : {b : Traffic} {x z : Code} → Runs t cu cd b x z → Fits t x → Exec drive (turn t) cu cd b (stands x) (stands z) × Fits t z
   runs-exec stop f = (done, f)
   runs-exec (move p q) f =
       let e = move-exec p f in

@@ -5,17 +5,18 @@ use Prim.Native.Nat.{ℕ, zero, suc}
 use mathlib.Core.Path.{_≡_, refl, sym, ap, _∙_}
 use mathlib.Core.List.{List, [], _∷_, _++_, append-nil, append-assoc}
 use Rattle.machine.specs.Machine.{On, on, Turn, gives, takes, rests, Moves, Kept, Keeps}
-use Rattle.machine.specs.Bulk.{less}
+use Rattle.machine.specs.Parts.{less}
 use Rattle.machine.specs.Follows.{through}
 use Rattle.machine.proofs.Moves.{kept}
 use Rattle.client.specs.Calls.{payload}
-use Rattle.client.specs.Session.{Handshake, Magic, Style, Newstyle, Hello, Naming, Terms, Filler, Progress, Asking, Paying, Hearing, Filling}
-use Rattle.client.specs.Session.{State, Blank, Shaking, Ready, Calling, Closed, Over, naming, greeting, paying, asking, turn}
+use Rattle.client.specs.Session.{Handshake, Magic, Style, Newstyle, Hello, Naming, SizeAndFlags, Filler, Progress, Asking, Paying, Hearing, Filling}
+use Rattle.client.specs.Session.{State, Blank, Shaking, Ready, Calling, Closed, Over, naming, greeting, paying, afterRequest, turn}
 use Rattle.client.specs.declared.state.Device.{Device}
 use Rattle.client.specs.declared.state.Call as request
 use Rattle.client.specs.declared.state.Outcome.{Outcome}
 use Rattle.client.specs.declared.state.Outcome.the-variants.{Open, Succeeded, Failed, Ended, Refused}
-use Rattle.joined.specs.Disk.{Call, Result}
+use Rattle.wire.specs.Results.{Result}
+use Rattle.joined.specs.Disk.{Call}
 use Rattle.joined.specs.Code.{buffer, collected, resultOf}
 use Rattle.joined.proofs.Driver.{Driver, busy, over, Begun, out, shut, begin, going, next, settle, drive}
 
@@ -42,7 +43,7 @@ module _ (m : List ℕ) (ks : List Call) (rs : List Result) where
   paying-busy d c zero = tt
   paying-busy d c (suc l) = tt
 
-  asking-busy : (d : Device) (c : request.Call) (l : ℕ) → NotOver (settle (on (asking d c l) m) ks rs)
+  asking-busy : (d : Device) (c : request.Call) (l : ℕ) → NotOver (settle (on (afterRequest d c l) m) ks rs)
   asking-busy d c zero = paying-busy d c (payload c)
   asking-busy d c (suc l) = tt
 
@@ -52,7 +53,7 @@ module _ (m : List ℕ) (ks : List Call) (rs : List Result) where
   shaking-given n (Newstyle left) = tt
   shaking-given n (Hello left) = greeting-busy n (less left)
   shaking-given n (Naming left) = naming-busy n (less left)
-  shaking-given n (Terms old got) = tt
+  shaking-given n (SizeAndFlags old got) = tt
   shaking-given n (Filler size flags clean left) = tt
 
   calling-given : (d : Device) (c : request.Call) (p : Progress) → Given (drive (busy (Calling d c p) m ks rs))

@@ -9,7 +9,7 @@ use mathlib.Core.Bool.{true}
 use mathlib.Core.List.{List, [], _∷_, _++_}
 use lib.ListN.{length, take, drop, length-append}
 use Rattle.machine.specs.Machine.{On, on}
-use Rattle.machine.specs.Bytes.{Bytes, talk-bytes}
+use Rattle.machine.specs.Traffic.{Traffic, talk-bytes}
 use Rattle.machine.specs.Wires.{sys, the-client, the-server, Exec, Talk}
 use Rattle.machine.proofs.Talking.{talk-then}
 use Rattle.wire.specs.declared.table.Export.{Export}
@@ -23,11 +23,13 @@ use Rattle.client.specs.Calls.{device}
 use Rattle.client.specs.Contract.{fresh}
 use Rattle.client.specs.Reached.{at-first}
 use Rattle.client.specs.declared.state.Client.{Client}
-use Rattle.joined.specs.Disk.{Disk, Call, Result, results, final, placed}
+use Rattle.wire.specs.Results.{Result}
+use Rattle.machine.specs.Parts.{placed}
+use Rattle.joined.specs.Disk.{Disk, Call, results, final}
 use Rattle.joined.specs.Carried.{upAll, downAll}
 use Rattle.joined.specs.Said.{questions, answers, saidUp, saidDown}
 use Rattle.joined.specs.Code.{Code, joint, Ready, Sized, Runs, Holds, begin, export, disk, opening}
-use Rattle.joined.specs.Host.{Hosts, Rounds, no-round, round}
+use Rattle.joined.specs.Host.{Visits, Rounds, no-round, round}
 use Rattle.joined.proofs.Driver.{Driver, busy, over, next, settle, drive}
 use Rattle.joined.proofs.Coded.{Fit, Fits, stands, runs-exec}
 use Rattle.joined.proofs.Calls.{Told, calls-talk}
@@ -37,7 +39,7 @@ use Rattle.joined.proofs.Formula.{length-questions, length-answers}
 use Rattle.joined.proofs.Opening.{sound-record, short, front, in-parts, first-agrees, handshake-talk, carried-up, carried-down}
 
 pub last-round : {t : List ℕ} {cu cd n : ℕ} {x z : Code} → Rounds t cu cd (suc n) x z
-    → (y : Code) × Rounds t cu cd n x y × (i : ℕ) × (j : ℕ) × Hosts t cu cd (suc i) (suc j) y z
+    → (y : Code) × Rounds t cu cd n x y × (i : ℕ) × (j : ℕ) × Visits t cu cd (suc i) (suc j) y z
 last-round {x = x} (round {i = i} {j = j} v no-round) = (x, no-round, i, j, v)
 last-round (round v (round w r)) =
     let l = last-round (round w r) in
@@ -90,12 +92,12 @@ module _ {t img name : List ℕ} {k : ℕ} (holds : Holds t img name k) (ks : Li
   pub fit : Fit t fresh name (code (Shaking (Greeting 18))) img
   fit = record { reached = at-first; client-fits = refl; name-fits = λ _. short holds; server-fits = rw (holds .sound) }
 
-  pub executed : {cu cd : ℕ} {b : Bytes} {z : Code} → Runs t cu cd b (begin name ks img) z
+  pub executed : {cu cd : ℕ} {b : Traffic} {z : Code} → Runs t cu cd b (begin name ks img) z
       → Exec drive (serve t) cu cd b (sys start (on (Shaking (Greeting 18)) img) [] []) (stands z) × Fits t z
   executed p = runs-exec p fit
 
   -- ---- the end
-  pub finished : {cu cd : ℕ} {b : Bytes} {c : Client} {m : List ℕ} {rs : List Result} {s : Server} {img′ u d : List ℕ} → Sized cu cd
+  pub finished : {cu cd : ℕ} {b : Traffic} {c : Client} {m : List ℕ} {rs : List Result} {s : Server} {img′ u d : List ℕ} → Sized cu cd
       → Runs t cu cd b (begin name ks img) (joint c m [] rs s img′ u d) → Ready c
       → (stands (joint c m [] rs s img′ u d) ≡ sys (over all) end [] []) × (b ≡ talk-bytes us ds)
   finished wires run i = talk-over (wires .up) (wires .down) talk refl refl (by-take all) (executed run .0) (rw (i .rests))

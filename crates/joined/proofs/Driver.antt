@@ -21,7 +21,8 @@ use Rattle.client.specs.declared.state.Call.the-variants.{Read, Write, Flush, T
 use Rattle.client.specs.declared.state.Outcome.{Outcome}
 use Rattle.client.specs.declared.state.Outcome.the-variants.{Succeeded, Refused}
 use Rattle.client.specs.declared.state.Value.the-variants.{Position}
-use Rattle.joined.specs.Disk.{Call, read, write, seek, flush, trim, Result}
+use Rattle.wire.specs.Results.{Result}
+use Rattle.joined.specs.Disk.{Call, read, write, seek, flush, trim}
 use Rattle.joined.specs.Code.{seekFrom, buffer, collected}
 
 pub data Driver : Type 0 where

@@ -20,17 +20,18 @@ use Rattle.machine.proofs.Follows.{follows-moves}
 use Rattle.client.specs.Calls.{transfer, sought, amount, valueOf}
 use Rattle.client.specs.Session.{State, Blank, Shaking, Ready, Calling, Closed, Over, turn}
 use Rattle.client.specs.View.{view}
-use Rattle.client.specs.Ranges.{inRange, lentTo, lent}
-use Rattle.client.specs.Contract.{shaken, may, called, answer, opened, grantedAt, grantedOn, moving, soughtTo, after, outcomeOf}
+use Rattle.client.specs.Ranges.{inRange, lentTo, sameLoan}
+use Rattle.client.specs.Contract.{shaken, callCheck, called, answer, opened, grantedAt, grantedOn, moving, soughtTo, after, outcomeOf}
 use Rattle.client.specs.declared.state.Device.{Device}
 use Rattle.client.specs.declared.state.Call as request
 use Rattle.client.specs.declared.state.Call.the-variants.{Read, Write, Flush, Trim}
 use Rattle.client.specs.declared.state.Client.{Client}
 use Rattle.client.specs.declared.state.Outcome.the-variants.{Succeeded}
 use Rattle.client.specs.declared.Called.{Called}
-use Rattle.client.specs.declared.May.{May}
-use Rattle.client.specs.declared.May.the-variants as may-be
-use Rattle.joined.specs.Disk.{Call, read, write, seek, flush, trim, Result}
+use Rattle.client.specs.declared.CallCheck.{CallCheck}
+use Rattle.client.specs.declared.CallCheck.the-variants as may-be
+use Rattle.wire.specs.Results.{Result}
+use Rattle.joined.specs.Disk.{Call, read, write, seek, flush, trim}
 use Rattle.joined.specs.Code.{seekFrom, calls, buffer, collected}
 use Rattle.joined.proofs.Called.{NotBlank, begun}
 use Rattle.joined.proofs.Driver.{Begun, out, shut, granted, soughtAt, begin, going, next, settle, drive}
@@ -74,19 +75,19 @@ module _ (c : Client) (d : Device) (ready : view c ≡ Ready d) where
   sought-made (some p) = (refl, refl)
 
   module _ (fine : inRange c ≡ true) where
-    may-on : may c ≡ may-be.On d
+    may-on : callCheck c ≡ may-be.On d
     may-on = rw (fine, ready)
 
     pub made : (k : Call) → Made d (begin d k) (calls k c)
     made (read buf) =
         let f : ℕ → request.Call = λ n. Read n (length buf) in
-        rw (ap (λ (x : May). moving c f (grantedOn (length buf) x)) may-on) (moving-made f (transfer d (length buf)))
+        rw (ap (λ (x : CallCheck). moving c f (grantedOn (length buf) x)) may-on) (moving-made f (transfer d (length buf)))
     made (write buf) =
         let f : ℕ → request.Call = λ n. Write n (length buf) in
-        rw (ap (λ (x : May). moving c f (grantedOn (length buf) x)) may-on) (moving-made f (transfer d (length buf)))
-    made (seek f) = rw (ap (λ (x : May). called c (λ e. soughtTo c e (sought e (seekFrom f))) x) may-on) (sought-made (sought d (seekFrom f)))
-    made flush = ap (λ (x : May). called c (λ e. opened e Flush) x) may-on
-    made (trim k) = rw (ap (λ (x : May). moving c Trim (grantedOn k x)) may-on) (moving-made Trim (transfer d k))
+        rw (ap (λ (x : CallCheck). moving c f (grantedOn (length buf) x)) may-on) (moving-made f (transfer d (length buf)))
+    made (seek f) = rw (ap (λ (x : CallCheck). called c (λ e. soughtTo c e (sought e (seekFrom f))) x) may-on) (sought-made (sought d (seekFrom f)))
+    made flush = ap (λ (x : CallCheck). called c (λ e. opened e Flush) x) may-on
+    made (trim k) = rw (ap (λ (x : CallCheck). moving c Trim (grantedOn k x)) may-on) (moving-made Trim (transfer d k))
 
 -- ---- what is lent to a call that goes out
 abbrev Lends : List ℕ → Begun → Type 0
@@ -112,7 +113,7 @@ lends d (seek f) = sought-lends d (sought d (seekFrom f))
 lends d flush = refl
 lends d (trim k) = granted-lends d Trim [] (λ n. refl) (transfer d k)
 
-lent-to : (d : Device) (b : Begun) (buf : List ℕ) (r : Called) → Made d b r → Lends buf b → lent (length buf) (view (r .state)) ≡ true
+lent-to : (d : Device) (b : Begun) (buf : List ℕ) (r : Called) → Made d b r → Lends buf b → sameLoan (length buf) (view (r .state)) ≡ true
 lent-to d (out q) buf r e h = rw e (eq-eqb (lentTo q) (length buf) h)
 lent-to d (shut o d′) buf r e h = rw (e .1)
 
@@ -122,7 +123,7 @@ stands-at d (out q) buf r ks rs e = rw e
 stands-at d (shut o d′) buf r ks rs e = rw (e .0, e .1)
 
 module _ (k : Call) (c : Client) (d : Device) (ready : view c ≡ Ready d) (fine : inRange c ≡ true) where
-  pub lent-after : lent (length (buffer k)) (view (calls k c .state)) ≡ true
+  pub lent-after : sameLoan (length (buffer k)) (view (calls k c .state)) ≡ true
   lent-after = lent-to d (begin d k) (buffer k) (calls k c) (made c d ready fine k) (lends d k)
 
   pub not-blank-after : NotBlank (view (calls k c .state))

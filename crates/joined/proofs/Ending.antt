@@ -11,10 +11,10 @@ use mathlib.Core.List.{List, [], _∷_, _++_, append-nil}
 use native.Mathlib.Omega.{arith}
 use Rattle.machine.specs.Machine.{Turn, gives, takes, rests, owes, Moves, still}
 use Rattle.machine.specs.Machine as machine
-use Rattle.machine.specs.Bytes.{Bytes, talk-bytes, no-bytes, append}
+use Rattle.machine.specs.Traffic.{Traffic, talk-bytes, no-bytes, append}
 use Rattle.machine.specs.Wires.{Sys, sys, the-client, Exec, Talk, silent, up, down}
 use Rattle.machine.proofs.Moves.{unmoved, resting}
-use Rattle.machine.proofs.Bytes.{append-none}
+use Rattle.machine.proofs.Traffic.{append-none}
 use Rattle.machine.proofs.Outcome.{talk-midway}
 
 -- ---- lists
@@ -22,9 +22,9 @@ none-left : (l r : List ℕ) → [] ≡ l ++ r → (l ≡ []) × (r ≡ [])
 none-left [] r e = (refl, sym e)
 none-left (x ∷ l) r e = absurd (let z : _≡_ {A = ℕ} 0 1 = cc in omega arith)
 
-nothing : (b : Bytes) → b .client-in ≡ [] → b .client-out ≡ [] → b .server-in ≡ [] → b .server-out ≡ [] → b ≡ no-bytes
+nothing : (b : Traffic) → b .client-in ≡ [] → b .client-out ≡ [] → b .server-in ≡ [] → b .server-out ≡ [] → b ≡ no-bytes
 nothing b p q r s =
-    let whole : _≡_ {A = Bytes} (record { client-in = b .client-in; client-out = b .client-out; server-in = b .server-in; server-out = b .server-out }) no-bytes =
+    let whole : _≡_ {A = Traffic} (record { client-in = b .client-in; client-out = b .client-out; server-in = b .server-in; server-out = b .server-out }) no-bytes =
     rw (p, q, r, s) in
     whole
 
@@ -70,15 +70,15 @@ module _ {C S : Type 0} {turnC : C → Turn C} {turnS : S → Turn S} where
 
   module _ {cu cd : ℕ} (hu : 0 < cu) (hd : 0 < cd) {us ds : List ℕ} {c c′ : C} {s s′ : S} (talk : Talk turnC turnS us ds c s c′ s′)
       (c-owes : owes (turnC c′) ≡ false) (s-owes : owes (turnS s′) ≡ false) (by-take : (x : C) (b : ℕ) → turnC x ≡ gives b c′ → ⊥) where
-    pub talk-over : {b : Bytes} {y : Sys C S} → Exec turnC turnS cu cd b (sys c s [] []) y → turnC (the-client y) ≡ rests
+    pub talk-over : {b : Traffic} {y : Sys C S} → Exec turnC turnS cu cd b (sys c s [] []) y → turnC (the-client y) ≡ rests
         → (y ≡ sys c′ s′ [] []) × (b ≡ talk-bytes us ds)
     talk-over {b = b} {y = sys cy sy u d} e r =
         let m = talk-midway hu hd talk c-owes s-owes e in
         let more = m .to-come in
         let f = resting r (m .after .of-client) in
         let down-none = none-left d (more .server-out) (sym (m .after .fifo-down ∙ ap (λ (l : List ℕ). l ++ []) (f .0))) in
-        let all-given : ds ≡ b .server-out = ap (λ (x : Bytes). x .server-out) (m .parts) ∙ ap (λ (l : List ℕ). b .server-out ++ l) (down-none .1) ∙ append-nil (b .server-out) in
-        let up-none : more .server-in ≡ [] = none-taken (b .server-in) (more .server-in) (ap (λ (x : Bytes). x .server-in) (m .parts)) (rw (sym all-given) at (m .before .of-server)) in
+        let all-given : ds ≡ b .server-out = ap (λ (x : Traffic). x .server-out) (m .parts) ∙ ap (λ (l : List ℕ). b .server-out ++ l) (down-none .1) ∙ append-nil (b .server-out) in
+        let up-none : more .server-in ≡ [] = none-taken (b .server-in) (more .server-in) (ap (λ (x : Traffic). x .server-in) (m .parts)) (rw (sym all-given) at (m .before .of-server)) in
         let q : sy ≡ s′ = unmoved (rw (up-none, down-none .1) at (m .after .of-server)) in
         let w : u ≡ [] = sym (append-nil u) ∙ ap (λ (l : List ℕ). u ++ l) (sym (f .1)) ∙ m .after .fifo-up ∙ append-nil (more .server-in) ∙ up-none in
         let z : more ≡ no-bytes = nothing more (f .0) (f .1) up-none (down-none .1) in

@@ -9,7 +9,7 @@ use mathlib.Core.List.{List, [], _++_}
 use native.Mathlib.Omega.{arith}
 use lib.ListN.{take, drop}
 use Rattle.machine.specs.Machine.{On, on, rests}
-use Rattle.machine.specs.Bytes.{Bytes, server-bytes}
+use Rattle.machine.specs.Traffic.{Traffic, server-bytes}
 use Rattle.machine.specs.Pieces.{Turns}
 use Rattle.machine.specs.Wires.{Sys, the-client, Exec, done, next, Stuck}
 use Rattle.machine.specs.Rounds as machines
@@ -26,9 +26,10 @@ use Rattle.client.specs.declared.state.Client.{Client}
 use Rattle.client.specs.declared.state.Device.{Device}
 use Rattle.client.proofs.Refusals.{in-range}
 use Rattle.client.proofs.Result.{in-ranges}
-use Rattle.joined.specs.Disk.{Call, Result}
+use Rattle.wire.specs.Results.{Result}
+use Rattle.joined.specs.Disk.{Call}
 use Rattle.joined.specs.Code.{Code, joint, Ready}
-use Rattle.joined.specs.Host.{Hosts, stop, client-visit, server-visit, shake, call, Rounds, no-round, round}
+use Rattle.joined.specs.Host.{Visits, stop, client-visit, server-visit, shake, call, Rounds, no-round, round}
 use Rattle.joined.proofs.Driver.{Driver, over, settle, drive}
 use Rattle.joined.proofs.Driving.{followed, already, shaken-already}
 use Rattle.joined.proofs.Runs.{left}
@@ -59,12 +60,12 @@ is-ready {c = c} {m = m} ks rs all f e =
     let w = ready-at (view c) m ks rs all (in-range c (in-ranges (f .reached))) e in
     record { device = w .0; rests = w .1 }
 
-stuck-stays : {t : List ℕ} {cu cd : ℕ} {b : Bytes} {x y : Sys Driver (On State)} → Stuck drive (serve t) cu cd x → Exec drive (serve t) cu cd b x y → x ≡ y
+stuck-stays : {t : List ℕ} {cu cd : ℕ} {b : Traffic} {x y : Sys Driver (On State)} → Stuck drive (serve t) cu cd x → Exec drive (serve t) cu cd b x y → x ≡ y
 stuck-stays h done = refl
 stuck-stays h (next {a = a} {w = w} {y = y} m p) = absurd (h w a y m)
 
 module _ {t : List ℕ} {cu cd : ℕ} where
-  pub hosted : {i j : ℕ} {x z : Code} → Hosts t cu cd i j x z → Fits t x → machines.Visits drive (serve t) cu cd i j (stands x) (stands z) × Fits t z
+  pub hosted : {i j : ℕ} {x z : Code} → Visits t cu cd i j x z → Fits t x → machines.Visits drive (serve t) cu cd i j (stands x) (stands z) × Fits t z
   hosted stop f = (machines.no-visit, f)
   hosted (client-visit {c = c} {m = m} {ks = ks} {rs = rs} {d = d} n room r m′ room′ any fits h p q) f =
       let a = p .accepts (f .client-fits) in
@@ -91,14 +92,14 @@ module _ {t : List ℕ} {cu cd : ℕ} where
       (machines.round (i .0) (j .0), j .1)
 
   -- ---- the last calls
-  none-more : {i j : ℕ} {x z : Code} → Hosts t cu cd i j x z → left x ≡ [] → left z ≡ []
+  none-more : {i j : ℕ} {x z : Code} → Visits t cu cd i j x z → left x ≡ [] → left z ≡ []
   none-more stop e = e
   none-more (client-visit n room r m′ room′ any fits h p q) e = none-more q e
   none-more (server-visit n room r img′ room′ any fits p q) e = none-more q e
   none-more (shake r b f q) e = none-more q e
   none-more (call k r y f q) e = absurd (let z : _≡_ {A = ℕ} 0 1 = cc in omega arith)
 
-  pub all-made : {i j : ℕ} {x z : Code} (all : List Result) → Hosts t cu cd (suc i) j x z → Fits t x → Stuck drive (serve t) cu cd (stands x)
+  pub all-made : {i j : ℕ} {x z : Code} (all : List Result) → Visits t cu cd (suc i) j x z → Fits t x → Stuck drive (serve t) cu cd (stands x)
       → the-client (stands x) ≡ over all → left z ≡ []
   all-made all (client-visit {ks = ks} {rs = rs} n room r m′ room′ any fits h p q) f b e = none-more q (h .none-left (is-ready ks rs all f e))
   all-made all (server-visit {c = c} {m = m} {ks = ks} {rs = rs} {s = s} {img = img} {u = u} {d = d} n room r img′ room′ any fits p q) f b e =

@@ -24,7 +24,7 @@ use Rattle.wire.proofs.BigEndian.{length-be}
 use Rattle.wire.proofs.Soundness.{sound-table, sound-at}
 use Rattle.server.specs.Session as server
 use Rattle.server.proofs.Whole.{greeting-given}
-use Rattle.server.proofs.Options.{whole-flags-1, whole-export}
+use Rattle.server.proofs.Negotiation.{whole-flags-1, whole-export}
 use Rattle.client.specs.Calls.{fieldsOf, device}
 use Rattle.client.specs.Session.{Magic, Shaking, Closed, turn}
 use Rattle.client.specs.Contract.{fieldsValues}

@@ -23,23 +23,23 @@ use Rattle.wire.specs.Lookup.{started, narrowedBy}
 use Rattle.wire.specs.declared.utf8.Utf8.the-variants.{Start}
 use Rattle.server.specs.Session as server
 use Rattle.server.proofs.Names.{Seen, sees, seen, stands, each-seen}
-use Rattle.server.proofs.Options.{whole-flags-1, option-judged}
-use Rattle.client.specs.Calls.{payload, asks}
-use Rattle.client.specs.Session.{Magic, Hello, Terms, Asking, Hearing, Shaking, Calling, hello, magicked, styled, naming, greeting as greeted, paying, asking, turn}
+use Rattle.server.proofs.Negotiation.{whole-flags-1, option-judged}
+use Rattle.client.specs.Calls.{payload, requestBytes}
+use Rattle.client.specs.Session.{Magic, Hello, SizeAndFlags, Asking, Hearing, Shaking, Calling, hello, judgeMagic, judgeStyle, naming, greeting as greeted, paying, afterRequest, turn}
 use Rattle.client.specs.declared.state.Device.{Device}
 use Rattle.client.specs.declared.state.Call.{Call}
 use Rattle.client.proofs.Runs.{length-hello, length-asks}
 use Rattle.joined.proofs.Parts.{owed-run}
 
 pub asks-sent : (d : Device) (c : Call) (m : List ℕ) → payload c ≤ length m
-    → Moves turn (on (Calling d c (Asking 28)) m) [] (asks d c ++ take (payload c) m) (on (Calling d c (Hearing [])) m)
+    → Moves turn (on (Calling d c (Asking 28)) m) [] (requestBytes d c ++ take (payload c) m) (on (Calling d c (Hearing [])) m)
 asks-sent d c m fits =
-    let p : Moves turn (on (asking d c 28) m) [] (asks d c) (on (paying d c (payload c)) m) =
-    owed-run turn (asking d c) (asks d c) m 28 (sym (length-asks d c)) (λ _. refl) in
+    let p : Moves turn (on (afterRequest d c 28) m) [] (requestBytes d c) (on (paying d c (payload c)) m) =
+    owed-run turn (afterRequest d c) (requestBytes d c) m 28 (sym (length-asks d c)) (λ _. refl) in
     then p (owed-run turn (paying d c) (take (payload c) m) m (payload c) (sym (length-take-le (payload c) m fits)) (λ _. refl))
 
 pub greeting-taken : (n : ℕ) (m : List ℕ) → Moves turn (on (Shaking n (Magic [])) m) greeting [] (on (Shaking n (Hello 20)) m)
-unfolding magicked styled sameBytes greeting be
+unfolding judgeMagic judgeStyle sameBytes greeting be
 greeting-taken n m =
     by-take refl (by-take refl (by-take refl (by-take refl (by-take refl (by-take refl (by-take refl (by-take refl (by-take refl
     (by-take refl (by-take refl (by-take refl (by-take refl (by-take refl (by-take refl (by-take refl (by-take refl (by-take refl still)))))))))))))))))
@@ -48,11 +48,11 @@ hello-name : (name : List ℕ) → hello (length name) ++ name ≡ exportName na
 unfolding hello exportName optionRequest be
 hello-name name = refl
 
-pub hello-sent : (name : List ℕ) → Moves turn (on (Shaking (length name) (Hello 20)) name) [] (exportName name) (on (Shaking (length name) (Terms false [])) name)
+pub hello-sent : (name : List ℕ) → Moves turn (on (Shaking (length name) (Hello 20)) name) [] (exportName name) (on (Shaking (length name) (SizeAndFlags false [])) name)
 hello-sent name =
     let n : ℕ = length name in
     let p : Moves turn (on (greeted n 20) name) [] (hello n) (on (naming n n) name) = owed-run turn (greeted n) (hello n) name 20 (sym (length-hello n)) (λ _. refl) in
-    let q : Moves turn (on (naming n n) name) [] name (on (Shaking n (Terms false [])) name) = owed-run turn (naming n) name name n refl (λ _. refl) in
+    let q : Moves turn (on (naming n n) name) [] name (on (Shaking n (SizeAndFlags false [])) name) = owed-run turn (naming n) name name n refl (λ _. refl) in
     rw (hello-name name) at (then p q)
 
 pub name-taken : (t m name : List ℕ) → length name ≤ 100000

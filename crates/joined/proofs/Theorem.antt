@@ -19,7 +19,7 @@ use native.Mathlib.Omega.{arith}
 use lib.ListN.{length, take, drop, length-append}
 use lib.Seq.{take-append-seam, take-at, drop-at}
 use Rattle.machine.specs.Machine.{On, on}
-use Rattle.machine.specs.Bytes.{Bytes, total}
+use Rattle.machine.specs.Traffic.{Traffic, total}
 use Rattle.machine.specs.Wires as machine
 use Rattle.machine.specs.Wires.{Sys, sys, the-client, wire-up, wire-down, Who}
 use Rattle.machine.proofs.Talking.{stuck}
@@ -31,7 +31,9 @@ use Rattle.server.specs.declared.state.Server.{Server}
 use Rattle.client.specs.View.{view}
 use Rattle.client.specs.Ranges.{refusal as why}
 use Rattle.client.specs.declared.state.Client.{Client}
-use Rattle.joined.specs.Disk.{Disk, Call, Result, results, final, placed}
+use Rattle.wire.specs.Results.{Result}
+use Rattle.machine.specs.Parts.{placed}
+use Rattle.joined.specs.Disk.{Disk, Call, results, final}
 use Rattle.joined.specs.Carried.{upAll, downAll}
 use Rattle.joined.specs.Said.{saidUp, saidDown}
 use Rattle.joined.specs.Code.{Code, joint, Ready, Unclosed, Sized, Move, Runs, AllClosed, Holds, begin, export, disk, opening, ClientCarries, ServerCarries}
@@ -62,7 +64,7 @@ module _ {t img name : List ℕ} {k : ℕ} (holds : Holds t img name k) (ks : Li
   image = placed img (export t k .start) (final plain ks .bytes)
 
   module _ {cu cd : ℕ} (wires : Sized cu cd) where
-    module _ {b : Bytes} {c : Client} {m : List ℕ} {rs : List Result} {s : Server} {img′ u d : List ℕ}
+    module _ {b : Traffic} {c : Client} {m : List ℕ} {rs : List Result} {s : Server} {img′ u d : List ℕ}
         (run : Runs t cu cd b (begin name ks img) (joint c m [] rs s img′ u d)) (closed : Ready c) where
       -- Every run that closes the handshake and all calls gives the results of the plain disk, and its bytes in the window; all other bytes
       -- of the image are as they were.
@@ -90,7 +92,7 @@ module _ {t img name : List ℕ} {k : ℕ} (holds : Holds t img name k) (ks : Li
           × (length (b .server-out) ≡ downAll plain ks) × (length (b .client-in) ≡ downAll plain ks)
       carried-formula = rw (finished holds ks wires run closed .1) (length-up holds ks, length-up holds ks, length-down holds ks, length-down holds ks)
 
-    module _ {b : Bytes} {c : Client} {m : List ℕ} {ls : List Call} {rs : List Result} {s : Server} {img′ u d : List ℕ}
+    module _ {b : Traffic} {c : Client} {m : List ℕ} {ls : List Call} {rs : List Result} {s : Server} {img′ u d : List ℕ}
         (run : Runs t cu cd b (begin name ks img) (joint c m ls rs s img′ u d)) where
       abbrev here : Sys Driver (On State)
       here = stands (joint c m ls rs s img′ u d)
@@ -118,14 +120,14 @@ module _ {t img name : List ℕ} {k : ℕ} (holds : Holds t img name k) (ks : Li
             parts = w .parts;
             same-results = o .0;
             same-image = o .1;
-            client-gave = ap (λ (x : Bytes). x .client-out) (f .1);
-            server-took = ap (λ (x : Bytes). x .server-in) (f .1);
-            server-gave = ap (λ (x : Bytes). x .server-out) (f .1);
-            client-took = ap (λ (x : Bytes). x .client-in) (f .1);
+            client-gave = ap (λ (x : Traffic). x .client-out) (f .1);
+            server-took = ap (λ (x : Traffic). x .server-in) (f .1);
+            server-gave = ap (λ (x : Traffic). x .server-out) (f .1);
+            client-took = ap (λ (x : Traffic). x .client-in) (f .1);
             none-up = ap wire-up (f .0);
             none-down = ap wire-down (f .0);
-            count-up = ap (λ (x : Bytes). length (x .client-out)) (f .1) ∙ length-up holds (w .calls);
-            count-down = ap (λ (x : Bytes). length (x .server-out)) (f .1) ∙ length-down holds (w .calls);
+            count-up = ap (λ (x : Traffic). length (x .client-out)) (f .1) ∙ length-up holds (w .calls);
+            count-down = ap (λ (x : Traffic). length (x .server-out)) (f .1) ∙ length-down holds (w .calls);
           }
 
       module _ (unclosed : Unclosed c) where
@@ -134,21 +136,21 @@ module _ {t img name : List ℕ} {k : ℕ} (holds : Holds t img name k) (ks : Li
         pub carries : ClientCarries cu c m u d ⊎ ServerCarries t cd s img′ u d
         carries = by (talk-goes-on (wires .up) (wires .down) (talk holds ks) refl refl (executed holds ks run .0))
           where
-            by : (here ≡ sys (over all) (end holds ks) [] []) ⊎ ((w : Who) × (a : Bytes) × (y : Sys Driver (On State)) × machine.Move drive (serve t) cu cd w a here y)
+            by : (here ≡ sys (over all) (end holds ks) [] []) ⊎ ((w : Who) × (a : Traffic) × (y : Sys Driver (On State)) × machine.Move drive (serve t) cu cd w a here y)
                 → ClientCarries cu c m u d ⊎ ServerCarries t cd s img′ u d
             by (inl q) = absurd (let f = sym (unsettled m ls rs (executed holds ks run .1) unclosed) ∙ ap the-client q in let z : _≡_ {A = ℕ} 0 1 = cc f in omega arith)
             by (inr q) = carried m ls rs (executed holds ks run .1) unclosed (q .3)
 
         -- And there is such a step: some move carries a byte.
-        pub moves : (a : Bytes) × (z : Code) × Move t cu cd a (joint c m ls rs s img′ u d) z × (0 < total a)
+        pub moves : (a : Traffic) × (z : Code) × Move t cu cd a (joint c m ls rs s img′ u d) z × (0 < total a)
         moves = let l = capacity (executed holds ks run .0) (omega arith) (omega arith) in move-there c m ls rs s img′ u d (l .0) (l .1) carries
 
     -- No run carries more bytes than the formula has, each onto a wire and off it.
-    pub bounded : {b : Bytes} {z : Code} → Runs t cu cd b (begin name ks img) z → total b ≤ 2 * (upAll name plain ks + downAll plain ks)
+    pub bounded : {b : Traffic} {z : Code} → Runs t cu cd b (begin name ks img) z → total b ≤ 2 * (upAll name plain ks + downAll plain ks)
     bounded run = rw (length-up holds ks, length-down holds ks) at (talk-bounded (wires .up) (wires .down) (talk holds ks) refl refl (executed holds ks run .0))
 
     -- Every run leads on to one that closes the handshake and all calls: so there is one from the start.
-    pub closes : {b : Bytes} {x : Code} → Runs t cu cd b (begin name ks img) x → (a : Bytes) × (z : Code) × Runs t cu cd a x z × AllClosed z
+    pub closes : {b : Traffic} {x : Code} → Runs t cu cd b (begin name ks img) x → (a : Traffic) × (z : Code) × Runs t cu cd a x z × AllClosed z
     closes {b} {x} run =
         closes-there (2 * (upAll name plain ks + downAll plain ks)) (λ b x run. executed holds ks run .1) (λ b x run. bounded run)
         (λ b c m ls rs s img′ u d run o. moves run o) b x run
@@ -172,7 +174,7 @@ module _ {t img name : List ℕ} {k : ℕ} (holds : Holds t img name k) (ks : Li
 
   -- Wires, cuttings and orders of moves do not choose the outcome.
   pub same-outcome : {cu cd ku kd : ℕ} → Sized cu cd → Sized ku kd
-      → {b b′ : Bytes} {c c′ : Client} {m m′ : List ℕ} {rs rs′ : List Result} {s s′ : Server} {i j u u′ d d′ : List ℕ}
+      → {b b′ : Traffic} {c c′ : Client} {m m′ : List ℕ} {rs rs′ : List Result} {s s′ : Server} {i j u u′ d d′ : List ℕ}
       → Runs t cu cd b (begin name ks img) (joint c m [] rs s i u d) → Ready c
       → Runs t ku kd b′ (begin name ks img) (joint c′ m′ [] rs′ s′ j u′ d′) → Ready c′ → (rs ≡ rs′) × (i ≡ j)
   same-outcome w v p x q y =

@@ -10,7 +10,7 @@ use lib.ListN.{length, take, replicate, length-replicate}
 use lib.Seq.{take-length, length-take-le}
 use Rattle.machine.specs.Machine.{On, on}
 use Rattle.machine.specs.Pieces.{Steps}
-use Rattle.machine.specs.Bytes.{Bytes, client-bytes, server-bytes, total}
+use Rattle.machine.specs.Traffic.{Traffic, client-bytes, server-bytes, total}
 use Rattle.machine.proofs.There.{step-there}
 use Rattle.server.specs.Session as server
 use Rattle.server.specs.View as viewed-server
@@ -19,7 +19,7 @@ use Rattle.server.specs.Contract as served-contract
 use Rattle.server.specs.Contract.{Serves}
 use Rattle.server.specs.declared.state.Server.{Server}
 use Rattle.server.specs.declared.Stepped as served
-use Rattle.server.specs.declared.Outcome.the-variants as server-outcome
+use Rattle.server.specs.declared.state.Outcome.the-variants as server-outcome
 use Rattle.server.proofs.Tidy.{stands-for}
 use Rattle.server.proofs.Bounds as server-bounds
 use Rattle.server.proofs.Kept.{next-good}
@@ -34,7 +34,8 @@ use Rattle.client.specs.declared.state.Client.{Client}
 use Rattle.client.specs.declared.state.Outcome.the-variants.{Refused}
 use Rattle.client.specs.declared.Stepped as driven
 use Rattle.client.proofs.Result.{within as driven-within}
-use Rattle.joined.specs.Disk.{Call, Result}
+use Rattle.wire.specs.Results.{Result}
+use Rattle.joined.specs.Disk.{Call}
 use Rattle.joined.specs.Code.{Code, joint, clientAt, serverAt, Move, client-step, server-step, ClientCarries, ServerCarries}
 
 -- ---- a step of the client
@@ -121,7 +122,7 @@ some-space : (cap : ℕ) (wire : List ℕ) → length wire < cap → 0 < length 
 some-space cap wire h = rw (length-replicate {A = ℕ} (cap - length wire) 0) (omega arith)
 
 abbrev pub Carrying : List ℕ → ℕ → ℕ → Code → Type 0
-Carrying t cu cd x = (b : Bytes) × (z : Code) × Move t cu cd b x z × (0 < total b)
+Carrying t cu cd x = (b : Traffic) × (z : Code) × Move t cu cd b x z × (0 < total b)
 
 module _ {t : List ℕ} {cu cd : ℕ} (c : Client) (m : List ℕ) (ks : List Call) (rs : List Result) (s : Server) (img u d : List ℕ) (hu : length u ≤ cu) (hd : length d ≤ cd) where
   pub move-there : ClientCarries cu c m u d ⊎ ServerCarries t cd s img u d → Carrying t cu cd (joint c m ks rs s img u d)

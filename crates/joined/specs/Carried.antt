@@ -1,5 +1,7 @@
 -- How many bytes go up, from the client to the server, and down (01, "Carried bytes").
+--   ifMoves n bytes           a call's bytes, where it moves some; else 0
 --   up d k, down d k          for one call on the disk d
+--   ups, downs                for a list of calls
 --   upAll, downAll            for the handshake and a list of calls
 use Prim.Native.Nat.{ℕ, zero, suc, _+_}
 use mathlib.Core.List.{List, [], _∷_}

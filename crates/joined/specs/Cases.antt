@@ -1,20 +1,20 @@
 -- 01's cases P1 to P12, as one list of what the definitions give and what 01 says.
---   Case, same          what was found and what is expected; whether they are the same bytes
---   numbered, without   an answer as a list: with a number, or with values alone
---   cases               the list
--- The server's and the client's cases run their machines (`run`) over the bytes of the case; 0x and small numbers are as 01 has them.
+--   cases   the list
+-- An answer stands there as a list: `numbered`, with a number, or `without`, with values alone.
+-- The server's and the client's cases run their machines (`runFor`) over the bytes of the case; 0x and small numbers are as 01 has them.
 use Prim.Native.Nat.{ℕ, _^_}
-use mathlib.Core.Bool.{Bool, true, false}
+use mathlib.Core.Bool.{false}
 use mathlib.Core.List.{List, [], _∷_, _++_}
 use mathlib.Core.Option.{Option, none, some}
 use lib.IntN.{ℤ, negsuc}
-use Rattle.machine.specs.Choice.{both}
 use Rattle.machine.specs.Machine.{On, on}
-use Rattle.machine.specs.Run.{Ran, run}
-use Rattle.wire.specs.Fields.{be, sameBytes}
+use Rattle.machine.specs.Run.{Ran, runFor}
+use Rattle.wire.specs.Fields.{be}
 use Rattle.wire.specs.Constants.{IHAVEOPT}
 use Rattle.wire.specs.Layouts.{greeting, optionRequest, request}
 use Rattle.wire.specs.Table.{wireFlags}
+use Rattle.wire.specs.Cases.{Case, is}
+use Rattle.wire.specs.Results.{Result}
 use Rattle.wire.specs.declared.table.Export.{Export}
 use Rattle.server.specs.Session.{State, Shaking, Greeting, ClientFlags, Serving, Header, turn}
 use Rattle.server.specs.Contract.{numberOf, outcomeOf}
@@ -24,18 +24,7 @@ use Rattle.client.specs.Calls.{device, positioned}
 use Rattle.client.specs.Contract as calls
 use Rattle.client.specs.declared.state.SeekFrom.the-variants.{Current}
 use Rattle.client.specs.declared.Called.{Called}
-use Rattle.joined.specs.Disk.{seek, from-here, Result, result}
-
-pub record Case : Type 0 where
-  pub found : List ℕ
-  pub expected : List ℕ
-
-abbrev pub is : List ℕ → List ℕ → Case
-is found expected = record { found = found; expected = expected }
-
-abbrev pub same : List Case → Bool
-same [] = true
-same (c ∷ cs) = both (sameBytes (c .found) (c .expected)) (same cs)
+use Rattle.joined.specs.Disk.{seek, from-here, result}
 
 -- An answer as a list: its first element tells a number, such as a refusal's, from the values of an answer without one.
 abbrev numbered : ℕ → List ℕ
@@ -53,7 +42,7 @@ abbrev ending : On State → List ℕ
 ending (on x m) = answered (numberOf (outcomeOf x)) []
 
 abbrev runs : State → List ℕ → List ℕ → Ran (On State)
-runs x img input = run (turn (1 ∷ [])) 200 (on x img) input 200
+runs x img input = runFor (turn (1 ∷ [])) 200 (on x img) input 200
 
 abbrev fresh : State
 fresh = Shaking (Greeting 18)
@@ -79,7 +68,7 @@ handle = 0x0102030405060708
 
 -- ---- the client
 abbrev greeted : Ran (On client.State)
-greeted = run client.turn 200 (on (client.Shaking 1 (client.Magic [])) (0x61 ∷ [])) greeting 200
+greeted = runFor client.turn 200 (on (client.Shaking 1 (client.Magic [])) (0x61 ∷ [])) greeting 200
 
 -- its answer to a seek by z from the position p
 abbrev sought : ℕ → ℤ → List ℕ

@@ -1,7 +1,10 @@
 -- The client's and the server's code on two wires of bounded capacity: what the contracts of their public functions say, in any order, on any
 -- pieces, with any room that the wire out has space for.
 --   Code             where all stands: the client and what is lent to it, the calls that are left, the results so far, the server and its image, the wires
+--   seekFrom         where a seek counts from, as the code has it
 --   calls k c        what the contract of the call k says of the client c
+--   buffer k         what is lent while the call k is open
+--   resultOf         the result of an outcome, with what the buffer holds
 --   collected        the results so far, with that of a call or of the handshake that has just been closed
 --   Ready c          the handshake and the call before are closed
 --   Unclosed c       the handshake or a call is open
@@ -12,15 +15,17 @@
 --   AllClosed        the handshake and all calls are closed
 --   Holds            the table is sound for the image, and its record k is the first of that name
 --   begin            the start: a fresh client, to which the name is lent, a fresh server, empty wires
+--   export t k       record k of the table
 --   disk, opening    the plain disk that the record stands for, and what the handshake answers
+--   ClientCarries, ServerCarries   each step of that side, on all of its wire in and with some room where its wire out has space, carries a byte or more
 use Prim.Native.Nat.{ℕ, _+_, _-_, _/_, _%_, _≤_, _<_}
 use mathlib.Core.Path.{_≡_}
 use mathlib.Core.List.{List, [], _∷_, _++_}
 use lib.Dec.{eqb}
 use lib.ListN.{length, getD, take, drop}
-use Rattle.machine.specs.Bytes.{Bytes, client-bytes, server-bytes, no-bytes, append}
+use Rattle.machine.specs.Traffic.{Traffic, client-bytes, server-bytes, no-bytes, append}
 use Rattle.wire.specs.Fields as wire
-use Rattle.wire.specs.Table.{Record, blank, records, fault}
+use Rattle.wire.specs.Table.{Record, noRecord, records, fault}
 use Rattle.wire.specs.Found.{First}
 use Rattle.server.specs.Session.{Shaking, Greeting}
 use Rattle.server.specs.View.{code}
@@ -38,7 +43,8 @@ use Rattle.client.specs.declared.state.SeekFrom.{SeekFrom}
 use Rattle.client.specs.declared.state.SeekFrom.the-variants.{Start, Current, End}
 use Rattle.client.specs.declared.Called.{Called}
 use Rattle.client.specs.declared.Stepped as driven
-use Rattle.joined.specs.Disk.{Disk, From, from-start, from-here, from-end, Call, read, write, seek, flush, trim, Result, succeeds}
+use Rattle.wire.specs.Results.{Result}
+use Rattle.joined.specs.Disk.{Disk, From, from-start, from-here, from-end, Call, read, write, seek, flush, trim, succeeds}
 
 pub data Code : Type 0 where
   joint : Client → List ℕ → List Call → List Result → Server → List ℕ → List ℕ → List ℕ → Code
@@ -102,7 +108,7 @@ pub record Sized (cu cd : ℕ) : Type 0 where
   pub up : 0 < cu
   pub down : 0 < cd
 
-pub data Move (t : List ℕ) (cu cd : ℕ) : Bytes → Code → Code → Type 0 where
+pub data Move (t : List ℕ) (cu cd : ℕ) : Traffic → Code → Code → Type 0 where
   -- the client is stepped on a first part of its wire in, with a room that its wire out has space for
   client-step : {c : Client} {m : List ℕ} {ks : List Call} {rs : List Result} {s : Server} {img u d : List ℕ}
       (n : ℕ) (room : List ℕ) (r : driven.Stepped) (m′ room′ : List ℕ) → length u + length room ≤ cu → Drives c m (take n d) room r m′ room′
@@ -118,9 +124,9 @@ pub data Move (t : List ℕ) (cu cd : ℕ) : Bytes → Code → Code → Type 0 
   call : {c : Client} {m : List ℕ} {ks : List Call} {rs : List Result} {s : Server} {img u d : List ℕ} (k : Call) (r : Called) → Ready c → r ≡ calls k c
       → Move t cu cd no-bytes (joint c m (k ∷ ks) rs s img u d) (callAt ks rs s img u d (buffer k) r)
 
-pub data Runs (t : List ℕ) (cu cd : ℕ) : Bytes → Code → Code → Type 0 where
+pub data Runs (t : List ℕ) (cu cd : ℕ) : Traffic → Code → Code → Type 0 where
   stop : {x : Code} → Runs t cu cd no-bytes x x
-  move : {x y z : Code} {a b : Bytes} → Move t cu cd a x y → Runs t cu cd b y z → Runs t cu cd (append a b) x z
+  move : {x y z : Code} {a b : Traffic} → Move t cu cd a x y → Runs t cu cd b y z → Runs t cu cd (append a b) x z
 
 abbrev pub AllClosed : Code → Type 0
 AllClosed (joint c m ks rs s img u d) = (ks ≡ []) × Ready c
@@ -136,7 +142,7 @@ begin name ks img = joint fresh name ks [] (code (Shaking (Greeting 18))) img []
 
 -- record k of the table
 abbrev pub export : List ℕ → ℕ → Record
-export t k = getD (records t) k blank
+export t k = getD (records t) k noRecord
 
 -- "The export's window is a part of the lent image"; bit 0 of the flags is read-only; "Position starts at 0"
 abbrev pub disk : Record → List ℕ → Disk

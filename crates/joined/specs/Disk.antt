@@ -1,13 +1,16 @@
 -- The plain disk (01): "the window's bytes, read-only flag and position", with calls made one after the other. Nothing here knows of machines or wires.
---   Disk, Call, From   the disk; the calls that are made on it; where a seek counts from
---   Result             a call's number, its values, and what its buffer holds afterwards
---   transfer d k       how many bytes a read, a write or a trim of k bytes moves; none where the position is past the size
---   shifted p z        p plus a signed number, where there is an answer
---   here d n           the n bytes from the position on
---   result d k         the result of the call k
---   after d k          the disk after it
---   results, final     those of a list of calls
---   placed img start bs   the image with these bytes in its window, and all others as they were
+--   Disk, Call, From          the disk; the calls that are made on it; where a seek counts from
+--   succeeds, fails, refused  a result with values, with an error of the device, with a number that refuses
+--   transfer d k              how many bytes a read, a write or a trim of k bytes moves; none where the position is past the size
+--   shifted p z               p plus a signed number, where there is an answer
+--   target d f                the position that a seek leads to, where there is one
+--   here d n                  the n bytes from the position on
+--   readResult, writeResult, trimResult, seekResult   the result of such a call, by the bytes that it moves or the position that it leads to
+--   result d k                the result of the call k
+--   moved d p, stored d n buf   the disk with its position at p; the disk with n bytes of buf stored, and its position behind them
+--   readAfter, writeAfter, seekAfter   the disk after such a call
+--   after d k                 the disk after the call k
+--   results, final            those of a list of calls
 use Prim.Native.Nat.{ℕ, zero, suc, min, _+_, _-_, _^_}
 use mathlib.Core.Bool.{Bool, not}
 use mathlib.Core.List.{List, [], _∷_, _++_}
@@ -16,6 +19,7 @@ use lib.Dec.{eqb, ltb, leb}
 use lib.IntN.{ℤ, pos, negsuc}
 use lib.ListN.{length, take, drop}
 use Rattle.machine.specs.Choice.{pick, both}
+use Rattle.wire.specs.Results.{Result}
 
 pub record Disk : Type 0 where
   pub bytes : List ℕ
@@ -33,12 +37,6 @@ pub data Call : Type 0 where
   seek : From → Call
   flush : Call
   trim : ℕ → Call
-
--- "a call that succeeds answers without a number"
-pub record Result : Type 0 where
-  pub number : Option ℕ
-  pub values : List ℕ
-  pub buffer : List ℕ
 
 abbrev pub succeeds : List ℕ → List ℕ → Result
 succeeds values buf = record { number = none; values = values; buffer = buf }
@@ -137,6 +135,3 @@ results d (k ∷ ks) = result d k ∷ results (after d k) ks
 abbrev pub final : Disk → List Call → Disk
 final d [] = d
 final d (k ∷ ks) = final (after d k) ks
-
-abbrev pub placed : List ℕ → ℕ → List ℕ → List ℕ
-placed img start bs = take start img ++ bs ++ drop (start + length bs) img

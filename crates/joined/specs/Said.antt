@@ -1,5 +1,8 @@
 -- The bytes that the handshake and the calls carry, by the protocol's layouts alone.
+--   ifSent n bytes             a call's bytes, where it moves some; else nothing is sent
+--   asking type d n            a request for n bytes from the position on
 --   question d k, answer d k   up and down, for one call on the disk d
+--   questions, answers         for a list of calls
 --   saidUp, saidDown           for the handshake and a list of calls
 -- That they are as many as 01's formula says is `said-up` and `said-down` of proofs/Formula.antt.
 use Prim.Native.Nat.{ℕ, zero, suc}

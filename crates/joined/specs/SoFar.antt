@@ -4,8 +4,10 @@ use mathlib.Core.Path.{_≡_}
 use Prim.Native.Nat.{ℕ}
 use mathlib.Core.List.{List, [], _∷_, _++_}
 use lib.ListN.{length}
-use Rattle.machine.specs.Bytes.{Bytes}
-use Rattle.joined.specs.Disk.{Disk, Call, Result, results, final, placed}
+use Rattle.machine.specs.Traffic.{Traffic}
+use Rattle.wire.specs.Results.{Result}
+use Rattle.machine.specs.Parts.{placed}
+use Rattle.joined.specs.Disk.{Disk, Call, results, final}
 use Rattle.joined.specs.Carried.{upAll, downAll}
 use Rattle.joined.specs.Said.{saidUp, saidDown}
 use Rattle.joined.specs.Code.{export, disk, opening}
@@ -16,7 +18,7 @@ module _ (t img name : List ℕ) (k : ℕ) (ks : List Call) where
   plain = disk (export t k) img
 
   -- of a run that carried b and stands where the calls ls are left, the results rs, the image img′ and the wires u and d
-  pub record SoFar (b : Bytes) (ls : List Call) (rs : List Result) (img′ u d : List ℕ) : Type 0 where
+  pub record SoFar (b : Traffic) (ls : List Call) (rs : List Result) (img′ u d : List ℕ) : Type 0 where
     pub closed : List Call
     pub parts : ks ≡ closed ++ ls
     pub same-results : rs ≡ opening (export t k) name ∷ results plain closed

@@ -8,12 +8,13 @@ use Prim.Native.Nat.{ℕ, min, _+_, _-_}
 use mathlib.Core.Path.{_≡_}
 use mathlib.Core.List.{List, _++_}
 use lib.ListN.{length, take, drop}
-use Rattle.machine.specs.Bytes.{client-bytes, server-bytes}
+use Rattle.machine.specs.Traffic.{client-bytes, server-bytes}
 use Rattle.server.specs.Contract.{Serves}
 use Rattle.server.specs.declared.state.Server.{Server}
 use Rattle.client.specs.Contract.{Drives}
 use Rattle.client.specs.declared.state.Client.{Client}
-use Rattle.joined.specs.Disk.{Call, Result}
+use Rattle.wire.specs.Results.{Result}
+use Rattle.joined.specs.Disk.{Call}
 use Rattle.joined.specs.Code.{joint, collected, Move}
 use Rattle.joined.specs.declared.ClientMoved.{ClientMoved}
 use Rattle.joined.specs.declared.ServerMoved.{ServerMoved}

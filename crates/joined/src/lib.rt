@@ -6,6 +6,14 @@ use machine::copy;
 use server::state::Server;
 ghost use Rattle.joined.specs.Wired.{ClientMoves, ServerMoves};
 
+// How many bytes stand on the wires, and how much of them a move may use: up to `piece` bytes in, up to `room` bytes out.
+pub struct Offer {
+    pub ups: usize,
+    pub downs: usize,
+    pub piece: usize,
+    pub room: usize,
+}
+
 // What the client's move did, and how many bytes stand on the wires after it.
 pub struct ClientMoved {
     pub step: client::Stepped,
@@ -20,55 +28,47 @@ pub struct ServerMoved {
     pub downs: usize,
 }
 
-// Steps the client on up to `piece` bytes of the wire down, with up to `room` bytes of the space on the wire up.
+// Steps the client on a piece of the wire down, with some of the space on the wire up.
 pub fn client_move(
     c: Client,
+    o: Offer,
     lent: &mut [u8],
     up: &mut [u8],
-    ups: usize,
     down: &mut [u8],
-    downs: usize,
-    piece: usize,
-    room: usize,
 ) -> ClientMoved
-    ensures { λ r. ⌜ ClientMoves c (now (lent .entry)) (now (up .entry)) ups (now (down .entry)) downs piece room r (now (lent .exit)) (now (up .exit)) (now (down .exit)) ⌝ }
+    ensures { λ r. ⌜ ClientMoves c (now (lent .entry)) (now (up .entry)) (o .ups) (now (down .entry)) (o .downs) (o .piece) (o .room)
+        r (now (lent .exit)) (now (up .exit)) (now (down .exit)) ⌝ }
 {
-    let there = copy::least(downs, down.len());
-    let n = copy::least(piece, there);
-    let from = copy::least(ups, up.len());
-    let to = from + copy::least(room, up.len() - from);
+    let there = copy::least(o.downs, down.len());
+    let n = copy::least(o.piece, there);
+    let from = copy::least(o.ups, up.len());
+    let to = from + copy::least(o.room, up.len() - from);
     let step = c.step(&down[..n], &mut up[from..to], lent);
     wires::take_off(down, there, step.taken);
-    ClientMoved {
-        step,
-        ups: from + step.given,
-        downs: there - step.taken,
-    }
+    let ups = from + step.given;
+    let downs = there - step.taken;
+    ClientMoved { step, ups, downs }
 }
 
-// Steps the server on up to `piece` bytes of the wire up, with up to `room` bytes of the space on the wire down.
+// Steps the server on a piece of the wire up, with some of the space on the wire down.
 pub fn server_move(
     s: Server,
+    o: Offer,
     table: &[u8],
     image: &mut [u8],
     up: &mut [u8],
-    ups: usize,
     down: &mut [u8],
-    downs: usize,
-    piece: usize,
-    room: usize,
 ) -> ServerMoved
-    ensures { λ r. ⌜ ServerMoves s (now (table .entry)) (now (image .entry)) (now (up .entry)) ups (now (down .entry)) downs piece room r (now (image .exit)) (now (up .exit)) (now (down .exit)) ⌝ }
+    ensures { λ r. ⌜ ServerMoves s (now (table .entry)) (now (image .entry)) (now (up .entry)) (o .ups) (now (down .entry)) (o .downs) (o .piece) (o .room)
+        r (now (image .exit)) (now (up .exit)) (now (down .exit)) ⌝ }
 {
-    let there = copy::least(ups, up.len());
-    let n = copy::least(piece, there);
-    let from = copy::least(downs, down.len());
-    let to = from + copy::least(room, down.len() - from);
-    let step = s.step(table, image, &up[..n], &mut down[from..to]);
+    let there = copy::least(o.ups, up.len());
+    let n = copy::least(o.piece, there);
+    let from = copy::least(o.downs, down.len());
+    let to = from + copy::least(o.room, down.len() - from);
+    let step = s.step(&up[..n], &mut down[from..to], table, image);
     wires::take_off(up, there, step.taken);
-    ServerMoved {
-        step,
-        ups: there - step.taken,
-        downs: from + step.given,
-    }
+    let ups = there - step.taken;
+    let downs = from + step.given;
+    ServerMoved { step, ups, downs }
 }

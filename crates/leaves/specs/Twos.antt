@@ -1,4 +1,5 @@
 -- The signed number that 64 bits stand for, in two's complement.
+--   twos x   that number, of the 64 bits whose plain number is x
 use Prim.Native.Nat.{ℕ, _-_, _^_}
 use lib.Dec.{ltb}
 use lib.IntN.{ℤ, pos, negsuc}

@@ -19,9 +19,9 @@ use native.Mathlib.Omega.{arith}
 use lib.ListN.{length, take, drop, length-append, take-append-drop, drop-of-length-le}
 use lib.Seq.{take-length}
 use Rattle.machine.specs.Machine.{Turn, owes, Moves, still, by-give, by-take, Stopped}
-use Rattle.machine.specs.Run.{reached, run}
+use Rattle.machine.specs.Run.{reached, runFor}
 use Rattle.machine.specs.Pieces.{Goes, Steps}
-use Rattle.machine.specs.Session.{Session, over, piece, Further, Finished}
+use Rattle.machine.specs.Stream.{Session, over, piece, Further, Finished}
 use Rattle.machine.proofs.Lists.{take-within}
 use Rattle.machine.proofs.Moves.{then}
 use Rattle.machine.proofs.Runs.{runs, one-stop}
@@ -106,7 +106,7 @@ module _ {X : Type 0} {turn : X → Turn X} where
   cutting {os = os} {ps = ps} p f q g = cutting-room p (finished-stopped (length ps) f) q (finished-stopped (length os) g) (omega arith)
 
   pub session-runs : {x y : X} {stream os rest : List ℕ} (k r : ℕ) → Session turn x stream os y rest → Finished (turn y) rest
-      → length stream + length os ≤ k → length os ≤ r → run turn k x stream r ≡ reached y rest os
+      → length stream + length os ≤ k → length os ≤ r → runFor turn k x stream r ≡ reached y rest os
   session-runs {os = os} {rest = rest} k r p f h l =
       let a = session-moves p in
       let e : length os + (r - length os) ≡ r = omega arith in

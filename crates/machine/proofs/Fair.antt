@@ -9,11 +9,11 @@ use native.Mathlib.Omega.{arith}
 use lib.ListN.{take, length-take}
 use Rattle.machine.specs.Machine.{Turn, owes, wants}
 use Rattle.machine.specs.Pieces.{Turns}
-use Rattle.machine.specs.Bytes.{Bytes, client-bytes, server-bytes, no-bytes, append, total}
+use Rattle.machine.specs.Traffic.{Traffic, client-bytes, server-bytes, no-bytes, append, total}
 use Rattle.machine.specs.Wires.{Sys, sys, client, server, Move, client-gives, client-takes, server-gives, server-takes, Exec, done, next, Blocked, Stuck}
 use Rattle.machine.specs.Rounds.{Room, Visited, Visits, no-visit, client-visit, server-visit, Rounds, no-round, round}
 use Rattle.machine.proofs.Runs.{turns-gives, turns-takes}
-use Rattle.machine.proofs.Bytes.{total-append}
+use Rattle.machine.proofs.Traffic.{total-append}
 use Rattle.machine.proofs.Confluence.{rejoin, stays}
 use Rattle.machine.proofs.Swap.{swapped-move}
 use Rattle.machine.proofs.Pieces.{front, exec-then, client-goes, server-goes}
@@ -29,20 +29,20 @@ module _ {C S : Type 0} {turnC : C → Turn C} {turnS : S → Turn S} {cu cd : �
   both-blocked p q server = q
 
   -- every move carries a byte
-  exec-unmoved : {a : Bytes} {x y : Sys C S} → Exec turnC turnS cu cd a x y → total a ≡ 0 → x ≡ y
+  exec-unmoved : {a : Traffic} {x y : Sys C S} → Exec turnC turnS cu cd a x y → total a ≡ 0 → x ≡ y
   exec-unmoved done e = refl
   exec-unmoved (next (client-gives p h) r) e = absurd (omega arith)
   exec-unmoved (next (client-takes p) r) e = absurd (omega arith)
   exec-unmoved (next (server-gives p h) r) e = absurd (omega arith)
   exec-unmoved (next (server-takes p) r) e = absurd (omega arith)
 
-  pub client-carries : {n taken given : ℕ} {c c′ : C} {s : S} {u d room room′ : List ℕ} {b : Bytes} {y : Sys C S} → 0 < n → Room cu u room
+  pub client-carries : {n taken given : ℕ} {c c′ : C} {s : S} {u d room room′ : List ℕ} {b : Traffic} {y : Sys C S} → 0 < n → Room cu u room
       → Turns turnC c (take n d) room taken given c′ room′ → Move turnC turnS cu cd client b (sys c s u d) y → 0 < taken + given
   client-carries h r t (client-gives e k) = turns-gives t (ap owes e) (r .some k)
   client-carries {n = n} h r t (client-takes {d = d} {b = b} e) = turns-takes t (ap wants e) (omega (arith, length-take n (b ∷ d)))
 
 module _ {C S : Type 0} {turnC : C → Turn C} {turnS : S → Turn S} {cu cd : ℕ} where
-  pub server-carries : {n taken given : ℕ} {c : C} {s s′ : S} {u d room room′ : List ℕ} {b : Bytes} {y : Sys C S} → 0 < n → Room cd d room
+  pub server-carries : {n taken given : ℕ} {c : C} {s s′ : S} {u d room room′ : List ℕ} {b : Traffic} {y : Sys C S} → 0 < n → Room cd d room
       → Turns turnS s (take n u) room taken given s′ room′ → Move turnC turnS cu cd server b (sys c s u d) y → 0 < taken + given
   server-carries h r t m = client-carries h r t (swapped-move m)
 
@@ -71,7 +71,7 @@ module _ {C S : Type 0} {turnC : C → Turn C} {turnS : S → Turn S} {cu cd : �
         server-blocked = λ e _ b y m. omega (arith, server-carries h r t m);
       }
 
-  pub fair : {k : ℕ} {a : Bytes} {x y t : Sys C S} → Exec turnC turnS cu cd a x t → Stuck turnC turnS cu cd t → total a ≤ k
+  pub fair : {k : ℕ} {a : Traffic} {x y t : Sys C S} → Exec turnC turnS cu cd a x t → Stuck turnC turnS cu cd t → total a ≤ k
       → Rounds turnC turnS cu cd k x y → y ≡ t
   fair e h l no-round = exec-unmoved e (omega arith)
   fair {a = a} e h l (round {k = k} v r) =

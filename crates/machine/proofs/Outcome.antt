@@ -14,10 +14,10 @@ use mathlib.Core.List.{List, []}
 use native.Mathlib.Omega.{arith}
 use lib.ListN.{length}
 use Rattle.machine.specs.Machine.{Turn, rests, owes}
-use Rattle.machine.specs.Bytes.{Bytes, talk-bytes, append, total}
+use Rattle.machine.specs.Traffic.{Traffic, talk-bytes, append, total}
 use Rattle.machine.specs.Wires.{Sys, sys, the-client, Who, Move, Exec, Stuck, Midway, Talk, Fresh}
 use Rattle.machine.specs.Rounds.{Rounds}
-use Rattle.machine.proofs.Bytes.{append-none, total-append, total-talk}
+use Rattle.machine.proofs.Traffic.{append-none, total-append, total-talk}
 use Rattle.machine.proofs.Confluence.{rejoin, progress, one-outcome}
 use Rattle.machine.proofs.Talking.{talk-exec, stuck, closed}
 use Rattle.machine.proofs.Sides.{midway}
@@ -37,23 +37,23 @@ module _ {C S : Type 0} {turnC : C → Turn C} {turnS : S → Turn S} {cu cd : �
   at-rest : Stuck turnC turnS cu cd end
   at-rest = stuck c-owes s-owes
 
-  pub talk-midway : {b : Bytes} {y : Sys C S} → Exec turnC turnS cu cd b start y → Midway turnC turnS cu cd (talk-bytes us ds) start b y end
+  pub talk-midway : {b : Traffic} {y : Sys C S} → Exec turnC turnS cu cd b start y → Midway turnC turnS cu cd (talk-bytes us ds) start b y end
   talk-midway e = midway way at-rest e
 
-  pub talk-bounded : {b : Bytes} {y : Sys C S} → Exec turnC turnS cu cd b start y → total b ≤ 2 * (length us + length ds)
+  pub talk-bounded : {b : Traffic} {y : Sys C S} → Exec turnC turnS cu cd b start y → total b ≤ 2 * (length us + length ds)
   talk-bounded {b} e =
       let r = rejoin way at-rest e in
       let n = ap total (r .1) ∙ total-append b (r .0) in
       omega (arith, total-talk us ds)
 
-  pub talk-goes-on : {b : Bytes} {y : Sys C S} → Exec turnC turnS cu cd b start y
-      → (y ≡ end) ⊎ ((w : Who) × (a : Bytes) × (z : Sys C S) × Move turnC turnS cu cd w a y z)
+  pub talk-goes-on : {b : Traffic} {y : Sys C S} → Exec turnC turnS cu cd b start y
+      → (y ≡ end) ⊎ ((w : Who) × (a : Traffic) × (z : Sys C S) × Move turnC turnS cu cd w a y z)
   talk-goes-on e = progress (rejoin way at-rest e .2)
 
-  pub talk-outcome : {b : Bytes} {y : Sys C S} → Exec turnC turnS cu cd b start y → Stuck turnC turnS cu cd y → (y ≡ end) × (b ≡ talk-bytes us ds)
+  pub talk-outcome : {b : Traffic} {y : Sys C S} → Exec turnC turnS cu cd b start y → Stuck turnC turnS cu cd y → (y ≡ end) × (b ≡ talk-bytes us ds)
   talk-outcome e h = one-outcome way at-rest e h
 
-  pub talk-closed : {b : Bytes} {y : Sys C S} → Fresh turnS s′ → Exec turnC turnS cu cd b start y → turnC (the-client y) ≡ rests
+  pub talk-closed : {b : Traffic} {y : Sys C S} → Fresh turnS s′ → Exec turnC turnS cu cd b start y → turnC (the-client y) ≡ rests
       → (y ≡ end) × (b ≡ talk-bytes us ds)
   talk-closed {b} f e r =
       let j = rejoin way at-rest e in

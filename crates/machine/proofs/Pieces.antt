@@ -10,11 +10,11 @@ use native.Mathlib.Omega.{arith}
 use lib.ListN.{length, take, drop, length-append, take-append-drop}
 use Rattle.machine.specs.Machine.{Turn, Moves, still, by-give, by-take}
 use Rattle.machine.specs.Pieces.{Goes}
-use Rattle.machine.specs.Bytes.{Bytes, client-bytes, server-bytes, append}
+use Rattle.machine.specs.Traffic.{Traffic, client-bytes, server-bytes, append}
 use Rattle.machine.specs.Wires.{Sys, sys, client-gives, client-takes, Exec, done, next}
 use Rattle.machine.proofs.Lists.{take-within}
 use Rattle.machine.proofs.Runs.{taken-length, given-length}
-use Rattle.machine.proofs.Bytes.{append-append}
+use Rattle.machine.proofs.Traffic.{append-append}
 use Rattle.machine.proofs.Swap.{swapped}
 
 pub front : {X : Type 0} {turn : X → Turn X} {x y : X} {room room′ : List ℕ} {taken given : ℕ} (n : ℕ) (wire : List ℕ)
@@ -25,7 +25,7 @@ front {taken = taken} n wire g =
     (f, rw f at (taken-length g), given-length g)
 
 module _ {C S : Type 0} {turnC : C → Turn C} {turnS : S → Turn S} {cu cd : ℕ} where
-  pub exec-then : {a b : Bytes} {x y z : Sys C S} → Exec turnC turnS cu cd a x y → Exec turnC turnS cu cd b y z → Exec turnC turnS cu cd (append a b) x z
+  pub exec-then : {a b : Traffic} {x y z : Sys C S} → Exec turnC turnS cu cd a x y → Exec turnC turnS cu cd b y z → Exec turnC turnS cu cd (append a b) x z
   exec-then done q = q
   exec-then {b = b} (next {a = m} {b = a} e p) q = rw (append-append m a b) (next e (exec-then p q))
 

@@ -10,12 +10,12 @@ use native.Mathlib.Omega.{arith}
 use lib.ListN.{length, length-append}
 use lib.Seq.{append-snoc}
 use Rattle.machine.specs.Machine.{Turn, still, by-give, by-take}
-use Rattle.machine.specs.Bytes.{Bytes}
+use Rattle.machine.specs.Traffic.{Traffic}
 use Rattle.machine.specs.Wires.{Sys, sys, wire-up, wire-down, client-gives, client-takes, server-gives, server-takes, Exec, done, next, Stuck, Sides, Midway}
 use Rattle.machine.proofs.Confluence.{rejoin}
 
 module _ {C S : Type 0} {turnC : C → Turn C} {turnS : S → Turn S} {cu cd : ℕ} where
-  pub sides : {a : Bytes} {x y : Sys C S} → Exec turnC turnS cu cd a x y → Sides turnC turnS a x y
+  pub sides : {a : Traffic} {x y : Sys C S} → Exec turnC turnS cu cd a x y → Sides turnC turnS a x y
   sides (done {x = x}) = record { of-client = still; of-server = still; fifo-up = append-nil (wire-up x); fifo-down = append-nil (wire-down x) }
   sides (next {b = a} (client-gives {u = u} {b = b} e h) p) =
       let i = sides p in
@@ -50,11 +50,11 @@ module _ {C S : Type 0} {turnC : C → Turn C} {turnS : S → Turn S} {cu cd : �
         fifo-down = i .fifo-down;
       }
 
-  pub fifo : {a : Bytes} {c : C} {s : S} {y : Sys C S} → Exec turnC turnS cu cd a (sys c s [] []) y
+  pub fifo : {a : Traffic} {c : C} {s : S} {y : Sys C S} → Exec turnC turnS cu cd a (sys c s [] []) y
       → (a .client-out ≡ a .server-in ++ wire-up y) × (a .server-out ≡ a .client-in ++ wire-down y)
   fifo e = let i = sides e in (i .fifo-up, i .fifo-down)
 
-  pub capacity : {a : Bytes} {x y : Sys C S} → Exec turnC turnS cu cd a x y → length (wire-up x) ≤ cu → length (wire-down x) ≤ cd
+  pub capacity : {a : Traffic} {x y : Sys C S} → Exec turnC turnS cu cd a x y → length (wire-up x) ≤ cu → length (wire-down x) ≤ cd
       → (length (wire-up y) ≤ cu) × (length (wire-down y) ≤ cd)
   capacity done p q = (p, q)
   capacity (next (client-gives {u = u} {b = b} e h) r) p q = capacity r (omega (arith, length-append u (b ∷ []))) q
@@ -62,7 +62,7 @@ module _ {C S : Type 0} {turnC : C → Turn C} {turnS : S → Turn S} {cu cd : �
   capacity (next (server-gives {d = d} {b = b} e h) r) p q = capacity r p (omega (arith, length-append d (b ∷ [])))
   capacity (next (server-takes e) r) p q = capacity r (omega arith) q
 
-  pub midway : {a b : Bytes} {x y t : Sys C S} → Exec turnC turnS cu cd a x t → Stuck turnC turnS cu cd t → Exec turnC turnS cu cd b x y
+  pub midway : {a b : Traffic} {x y t : Sys C S} → Exec turnC turnS cu cd a x t → Stuck turnC turnS cu cd t → Exec turnC turnS cu cd b x y
       → Midway turnC turnS cu cd a x b y t
   midway e h f =
       let r = rejoin e h f in

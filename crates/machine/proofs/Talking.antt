@@ -13,7 +13,7 @@ use mathlib.Core.List.{List, [], _∷_, _++_, append-nil}
 use native.Mathlib.Omega.{arith}
 use lib.ListN.{length, length-append}
 use Rattle.machine.specs.Machine.{Turn, rests, owes, Moves, still, by-give, by-take}
-use Rattle.machine.specs.Bytes.{Bytes, talk-bytes, no-bytes}
+use Rattle.machine.specs.Traffic.{Traffic, talk-bytes, no-bytes}
 use Rattle.machine.specs.Wires.{Sys, sys, the-client, the-server, wire-down, client, server, client-gives, client-takes, server-gives, server-takes, Exec, done, next, Stuck, Talk, silent, up, down, Fresh}
 
 module _ {C S : Type 0} {turnC : C → Turn C} {turnS : S → Turn S} where
@@ -51,7 +51,7 @@ module _ {C S : Type 0} {turnC : C → Turn C} {turnS : S → Turn S} where
   stuck p q client b y (client-gives e h) = absurd (let z : _≡_ {A = ℕ} 0 1 = cc (ap owes e) in omega arith)
   stuck p q server b y (server-gives e h) = absurd (let z : _≡_ {A = ℕ} 0 1 = cc (ap owes e) in omega arith)
 
-  pub closed : {cu cd : ℕ} {a : Bytes} {x t : Sys C S} → Exec turnC turnS cu cd a x t → turnC (the-client x) ≡ rests → wire-down t ≡ [] → Fresh turnS (the-server t)
+  pub closed : {cu cd : ℕ} {a : Traffic} {x t : Sys C S} → Exec turnC turnS cu cd a x t → turnC (the-client x) ≡ rests → wire-down t ≡ [] → Fresh turnS (the-server t)
       → (x ≡ t) × (a ≡ no-bytes)
   closed done r w f = (refl, refl)
   closed (next (client-gives e h) p) r w f = absurd (let z : _≡_ {A = ℕ} 0 1 = cc in omega arith)

@@ -1,28 +1,25 @@
 -- Parts of what is lent.
---   Gathered   a header of which `have` bytes were there, with the bytes that came next, until there are `to`
---   Given      those of the last `left` bytes that the room has space for
---   owing      the byte of a list that comes next where so many are left
---   blank      whether all bytes are 0
-use Prim.Native.Nat.{ℕ, min, _+_, _-_}
-use mathlib.Core.Path.{_≡_}
+--   owing l left      the byte of a list that comes next where so many are left
+--   less n            one less
+--   blank l           whether all bytes are 0
+--   placed l from bs  the list with these bytes from a place on, and all others as they were
+use Prim.Native.Nat.{ℕ, zero, suc, _+_, _-_}
 use mathlib.Core.Bool.{Bool, true}
 use mathlib.Core.List.{List, [], _∷_, _++_}
 use lib.Dec.{eqb}
 use lib.ListN.{length, getD, take, drop}
-use lib.Seq.{paste}
 use Rattle.machine.specs.Choice.{both}
-
-pub record Gathered (head : List ℕ) (have to : ℕ) (input head′ : List ℕ) (taken : ℕ) : Type 0 where
-  pub least : taken ≡ min (to - have) (length input)
-  pub bytes : take (have + taken) head′ ≡ take have head ++ take taken input
-
-pub record Given (bytes : List ℕ) (left : ℕ) (room : List ℕ) (n : ℕ) (room′ : List ℕ) : Type 0 where
-  pub least : n ≡ min left (length room)
-  pub written : room′ ≡ paste room 0 (drop (length bytes - left) bytes) n
 
 abbrev pub owing : List ℕ → ℕ → ℕ
 owing l left = getD l (length l - left) 0
 
+abbrev pub less : ℕ → ℕ
+less zero = zero
+less (suc n) = n
+
 abbrev pub blank : List ℕ → Bool
 blank [] = true
 blank (b ∷ l) = both (eqb b 0) (blank l)
+
+abbrev pub placed : List ℕ → ℕ → List ℕ → List ℕ
+placed l from bs = take from l ++ bs ++ drop (from + length bs) l

@@ -9,7 +9,7 @@ use mathlib.Core.List.{List, _++_}
 use lib.ListN.{length, take, drop}
 use Rattle.machine.specs.Machine.{Turn}
 use Rattle.machine.specs.Pieces.{Turns}
-use Rattle.machine.specs.Bytes.{Bytes, total}
+use Rattle.machine.specs.Traffic.{Traffic, total}
 use Rattle.machine.specs.Wires.{Sys, sys, client, server, Exec, Blocked}
 
 pub record Room (cap : ℕ) (wire room : List ℕ) : Type 0 where
@@ -29,7 +29,7 @@ module _ {C S : Type 0} (turnC : C → Turn C) (turnS : S → Turn S) (cu cd : �
 
   -- An execution from x; and if it carried no byte, then where the client was visited it cannot move, and the server likewise.
   pub record Visited (i j : ℕ) (x y : Sys C S) : Type 0 where
-    pub bytes : Bytes
+    pub bytes : Traffic
     pub exec : Exec turnC turnS cu cd bytes x y
     pub client-blocked : total bytes ≡ 0 → 0 < i → Blocked turnC turnS cu cd client x
     pub server-blocked : total bytes ≡ 0 → 0 < j → Blocked turnC turnS cu cd server x

@@ -3,7 +3,8 @@ use crate::copy;
 ghost use mathlib.Core.Path.{_≡_};
 ghost use Prim.Native.Nat.{_≤_};
 ghost use lib.ListN.{length, drop};
-ghost use Rattle.machine.specs.Parts.{Gathered, Given, blank};
+ghost use Rattle.machine.specs.Parts.{blank};
+ghost use Rattle.machine.specs.Inner.{Gathered, Given};
 
 // The first `have` bytes of a header are there: takes those that come next, until there are `to`, and answers how many.
 pub fn gather(head: &mut [u8], have: usize, to: usize, input: &[u8]) -> usize

@@ -17,9 +17,9 @@ use Rattle.machine.proofs.Moves.{then}
 use Rattle.wire.specs.Fields.{number}
 use Rattle.wire.specs.Constants.{NBD-REPLY-MAGIC}
 use Rattle.server.proofs.Kept.{picked}
-use Rattle.client.specs.Calls.{payload, wanted, asks, valueOf, moved}
+use Rattle.client.specs.Calls.{payload, wanted, requestBytes, valueOf, moved}
 use Rattle.client.specs.Contract.{valuesIn}
-use Rattle.client.specs.Session.{State, Asking, Hearing, Calling, Closed, Over, paying, asking, filling, replied, heard, turn}
+use Rattle.client.specs.Session.{State, Asking, Hearing, Calling, Closed, Over, paying, afterRequest, filling, replied, heard, turn}
 use Rattle.client.specs.declared.state.Device.{Device}
 use Rattle.client.specs.declared.state.Call.{Call}
 use Rattle.client.specs.declared.state.Call.the-variants.{Read}
@@ -32,9 +32,9 @@ use Rattle.original.proofs.Reaches.{reaches-then}
 use Rattle.original.proofs.ClientMeets.{clientOf, Meets, meets-closed, meets-over, meets-cut, part-run}
 
 module _ (d : Device) (c : Call) (m : List ℕ) where
-  pub asks-sent : payload c ≤ length m → Moves turn (on (Calling d c (Asking 28)) m) [] (asks d c ++ take (payload c) m) (on (Calling d c (Hearing [])) m)
+  pub asks-sent : payload c ≤ length m → Moves turn (on (Calling d c (Asking 28)) m) [] (requestBytes d c ++ take (payload c) m) (on (Calling d c (Hearing [])) m)
   asks-sent fits =
-      then (owed-run (asking d c) (asks d c) m (λ _. refl) 28 (sym (length-asks d c)))
+      then (owed-run (afterRequest d c) (requestBytes d c) m (λ _. refl) 28 (sym (length-asks d c)))
       (owed-run (paying d c) (take (payload c) m) m (λ _. refl) (payload c) (sym (length-take-le (payload c) m fits)))
 
   abbrev hearing : On State
@@ -103,7 +103,7 @@ module _ (d : Device) (c : Call) (m : List ℕ) where
         (λ a. let a′ = leb-false 4 (length input) a in cut (omega arith))
 
   pub exchange-meets : payload c ≤ length m → (input : List ℕ) (more : List ℕ → Done) → ((left : List ℕ) → Meets (on (filling d c (wanted c)) m) left (more left))
-      → Meets (on (Calling d c (Asking 28)) m) input (exchange (clientOf d) (asks d c ++ take (payload c) m) m input more)
+      → Meets (on (Calling d c (Asking 28)) m) input (exchange (clientOf d) (requestBytes d c ++ take (payload c) m) m input more)
   exchange-meets fits input more goes-on = reaches-then (asks-sent fits) refl (reply-meets input more goes-on)
 
 -- ---- what follows the reply

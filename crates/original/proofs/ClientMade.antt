@@ -16,7 +16,7 @@ use lib.ListN.{length, take}
 use Rattle.machine.specs.Choice.{pick}
 use Rattle.machine.specs.Machine.{on}
 use Rattle.wire.specs.Numbers.{clamped}
-use Rattle.client.specs.Calls.{transfer, sought, payload, wanted, asks, valueOf, moved, positioned}
+use Rattle.client.specs.Calls.{transfer, sought, payload, wanted, requestBytes, valueOf, moved, positioned}
 use Rattle.client.specs.Session.{Asking, Ready, Calling}
 use Rattle.client.specs.View.{code}
 use Rattle.client.specs.Ranges.{lentTo}
@@ -102,7 +102,7 @@ module _ (d : Device) (input : List ℕ) where
 
   -- a call with no data behind its reply
   goes-out : (k : Call) (c : request.Call) (r : Done) → answered (asked k) (code (Ready d)) ≡ answer (Calling d c (Asking 28)) Open → payload c ≤ length (buffer k) → lentTo c ≡ length (buffer k) → wanted c ≡ 0
-      → r ≡ exchange (clientOf d) (asks d c ++ take (payload c) (buffer k)) (buffer k) input (λ left. stops left (buffer k) (ok (valuesIn (valueOf c)) (clientOf (moved d c))))
+      → r ≡ exchange (clientOf d) (requestBytes d c ++ take (payload c) (buffer k)) (buffer k) input (λ left. stops left (buffer k) (ok (valuesIn (valueOf c)) (clientOf (moved d c))))
       → Agrees k r
   goes-out k c r e fits l w q = inr record {
     call = c;

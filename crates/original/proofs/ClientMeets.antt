@@ -11,7 +11,7 @@ use mathlib.Core.Option.{Option, none, some}
 use native.Mathlib.Omega.{arith}
 use lib.ListN.{length}
 use Rattle.machine.specs.Machine.{On, on, takes, Moves, still}
-use Rattle.machine.specs.Bulk.{Gathers}
+use Rattle.machine.proofs.Families.{Gathers}
 use Rattle.machine.proofs.Bulk.{gathers}
 use Rattle.client.specs.Session.{State, Blank, Shaking, Ready, Calling, Closed, Over, turn}
 use Rattle.client.specs.Contract.{valuesIn}

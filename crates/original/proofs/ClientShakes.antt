@@ -21,7 +21,7 @@ use Rattle.wire.specs.Fields.{number, sameBytes}
 use Rattle.wire.specs.Table.{bit}
 use Rattle.server.proofs.Kept.{picked}
 use Rattle.client.specs.Calls.{fieldsOf, device}
-use Rattle.client.specs.Session.{State, Magic, Style, Newstyle, Terms, Filler, Shaking, Over, magicked, styled, termed, termsLength, judged, filler, turn}
+use Rattle.client.specs.Session.{State, Magic, Style, Newstyle, SizeAndFlags, Filler, Shaking, Over, judgeMagic, judgeStyle, judgeSizeAndFlags, sizeAndFlagsLength, judged, filler, turn}
 use Rattle.client.specs.Session as machine
 use Rattle.client.specs.Contract.{fieldsValues}
 use Rattle.client.specs.declared.state.Outcome.the-variants.{Succeeded}
@@ -55,13 +55,13 @@ width old = pick old 4 2
 abbrev low : Bool → ℕ → ℕ
 low old flags = pick old (flags % 2 ^ 16) flags
 
-terms-length : (old : Bool) → termsLength old ≡ 8 + width old
+terms-length : (old : Bool) → sizeAndFlagsLength old ≡ 8 + width old
 terms-length true = refl
 terms-length false = refl
 
 terms-at : (n : ℕ) (old : Bool) (left : List ℕ) → 8 + width old ≤ length left
-    → termed n old (take (8 + width old) left) ≡ Shaking n (Filler (number (take 8 left)) (low old (number (take (width old) (drop 8 left)))) true 124)
-unfolding termed
+    → judgeSizeAndFlags n old (take (8 + width old) left) ≡ Shaking n (Filler (number (take 8 left)) (low old (number (take (width old) (drop 8 left)))) true 124)
+unfolding judgeSizeAndFlags
 terms-at n true left h = rw (length-take-le 12 left h, take-part 0 8 12 left (omega arith), take-part 8 4 12 left (omega arith))
 terms-at n false left h = rw (length-take-le 10 left h, take-part 0 8 10 left (omega arith), take-part 8 2 10 left (omega arith))
 
@@ -102,7 +102,7 @@ module _ (name : List ℕ) where
   -- ---- the size and the flags
   module _ (old : Bool) (left : List ℕ) where
     abbrev terms : On State
-    terms = on (Shaking n (Terms old [])) name
+    terms = on (Shaking n (SizeAndFlags old [])) name
 
     abbrev size : ℕ
     size = number (take 8 left)
@@ -113,16 +113,16 @@ module _ (name : List ℕ) where
     abbrev behind : List ℕ
     behind = drop (width old) (drop 8 left)
 
-    quiet : (h : List ℕ) → length h < 8 + width old → termed n old h ≡ Shaking n (Terms old h)
+    quiet : (h : List ℕ) → length h < 8 + width old → judgeSizeAndFlags n old h ≡ Shaking n (SizeAndFlags old h)
     quiet h p = terms-part n old h (rw (terms-length old) p)
 
     cut-terms : length left < 8 + width old → Meets terms left short
-    cut-terms h = meets-cut (part-run (λ l. Shaking n (Terms old l)) (termed n old) (8 + width old) quiet left name (λ _. refl) h) refl refl
+    cut-terms h = meets-cut (part-run (λ l. Shaking n (SizeAndFlags old l)) (judgeSizeAndFlags n old) (8 + width old) quiet left name (λ _. refl) h) refl refl
 
     whole-terms : 8 + width old ≤ length left → Meets terms left (zeroes name size flags behind)
     whole-terms h =
         let l = length-take-le (8 + width old) left h in
-        let p = gathered-run (λ l. Shaking n (Terms old l)) (termed n old) (8 + width old) quiet (take (8 + width old) left) name (λ _. refl) l (omega arith) in
+        let p = gathered-run (λ l. Shaking n (SizeAndFlags old l)) (judgeSizeAndFlags n old) (8 + width old) quiet (take (8 + width old) left) name (λ _. refl) l (omega arith) in
         reaches-then (rw (terms-at n old left h) at p) (rw (drop-drop (width old) 8 left) (sym (take-append-drop (8 + width old) left))) (zeroes-meets size flags behind)
 
     pub terms-meets : Meets terms left (readNumber 8 left short λ size left. readNumber (width old) left short λ flags left. zeroes name size (low old flags) left)
@@ -150,7 +150,7 @@ module _ (name : List ℕ) where
   oldstyle-meets : {x : On State} (is left : List ℕ) → Moves turn x is [] (on (machine.oldstyle n) name) → Meets x (is ++ left) (oldstyle name left)
   oldstyle-meets {x} is left p = go (eqb n 0) p
     where
-      go : (b : Bool) → Moves turn x is [] (on (pick b (Shaking n (Terms true [])) (Over 42)) name)
+      go : (b : Bool) → Moves turn x is [] (on (pick b (Shaking n (SizeAndFlags true [])) (Over 42)) name)
           → Meets x (is ++ left) (pick (not b) (stops left name (fault 42)) (readNumber 8 left short λ size left. readNumber 4 left short λ flags left. zeroes name size (flags % 2 ^ 16) left))
       go true p = reaches-then p refl (terms-meets true left)
       go false p = meets-over p refl
@@ -168,23 +168,23 @@ module _ (name : List ℕ) where
 
     style-taken : 8 ≤ length input → Moves turn (on (Shaking n (Style [])) name) signature []
         (on (pick (sameBytes signature IHAVEOPT) (Shaking n (Newstyle 2)) (pick (sameBytes signature OLDSTYLE) (machine.oldstyle n) (Over 41))) name)
-    unfolding styled
+    unfolding judgeStyle
     style-taken h =
         let l = length-take-le 8 input h in
-        rw l at (gathered-run (λ got. Shaking n (Style got)) (styled n) 8 (style-part n) signature name (λ _. refl) l (omega arith))
+        rw l at (gathered-run (λ got. Shaking n (Style got)) (judgeStyle n) 8 (style-part n) signature name (λ _. refl) l (omega arith))
 
     magic-taken : 8 ≤ length input → Moves turn (on (Shaking n (Magic [])) name) signature [] (on (pick (sameBytes signature NBDMAGIC) (Shaking n (Style [])) (Over 40)) name)
-    unfolding magicked
+    unfolding judgeMagic
     magic-taken h =
         let l = length-take-le 8 input h in
-        rw l at (gathered-run (λ got. Shaking n (Magic got)) (magicked n) 8 (magic-part n) signature name (λ _. refl) l (omega arith))
+        rw l at (gathered-run (λ got. Shaking n (Magic got)) (judgeMagic n) 8 (magic-part n) signature name (λ _. refl) l (omega arith))
 
     styled-meets : Meets (on (Shaking n (Style [])) name) input
         (readExact 8 input short λ signature left.
         pick (sameBytes signature IHAVEOPT) (newstyle name left) (pick (sameBytes signature OLDSTYLE) (oldstyle name left) (stops left name (fault 41))))
     styled-meets =
         picked (Meets (on (Shaking n (Style [])) name) input) (leb 8 (length input)) (λ h. whole (sameBytes signature IHAVEOPT) (sameBytes signature OLDSTYLE) (style-taken (leb-true 8 (length input) h)))
-        (λ h. meets-cut (part-run (λ got. Shaking n (Style got)) (styled n) 8 (style-part n) input name (λ _. refl) (leb-false 8 (length input) h)) refl refl)
+        (λ h. meets-cut (part-run (λ got. Shaking n (Style got)) (judgeStyle n) 8 (style-part n) input name (λ _. refl) (leb-false 8 (length input) h)) refl refl)
       where
         whole : (a b : Bool) → Moves turn (on (Shaking n (Style [])) name) signature [] (on (pick a (Shaking n (Newstyle 2)) (pick b (machine.oldstyle n) (Over 41))) name)
             → Meets (on (Shaking n (Style [])) name) input (pick a (newstyle name rest) (pick b (oldstyle name rest) (stops rest name (fault 41))))
@@ -196,7 +196,7 @@ module _ (name : List ℕ) where
   unfolding handshake
   handshake-meets input =
       picked (Meets (on (Shaking n (Magic [])) name) input) (leb 8 (length input)) (λ h. whole (sameBytes (take 8 input) NBDMAGIC) (magic-taken input (leb-true 8 (length input) h)))
-      (λ h. meets-cut (part-run (λ got. Shaking n (Magic got)) (magicked n) 8 (magic-part n) input name (λ _. refl) (leb-false 8 (length input) h)) refl refl)
+      (λ h. meets-cut (part-run (λ got. Shaking n (Magic got)) (judgeMagic n) 8 (magic-part n) input name (λ _. refl) (leb-false 8 (length input) h)) refl refl)
     where
       whole : (a : Bool) → Moves turn (on (Shaking n (Magic [])) name) (take 8 input) [] (on (pick a (Shaking n (Style [])) (Over 40)) name)
           → Meets (on (Shaking n (Magic [])) name) input

@@ -29,7 +29,7 @@ use Rattle.client.specs.declared.state.Outcome.the-variants.{Open, Succeeded, F
 use Rattle.client.specs.declared.Called.{Called}
 use Rattle.client.proofs.Tidy.{viewed}
 use Rattle.client.proofs.Result.{in-ranges}
-use Rattle.client.proofs.Cut.{driven-session}
+use Rattle.client.proofs.Cutting.{driven-session}
 use Rattle.original.specs.Client.{NbdClient, Answer, ok, failed, fault, Done, Call, made, handshake}
 use Rattle.original.specs.ClientSession.{Told, resultOf, onward, calls, uses, session, asked, buffer, told, isOpen, isClosed, Stepped, closing, ending}
 use Rattle.original.specs.ClientSession.{Domain, Hosted, no-more, at-once, closes, ends, Hosts, opens, breaks-off}

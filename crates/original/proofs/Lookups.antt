@@ -10,8 +10,7 @@ use native.Mathlib.Omega.{arith}
 use lib.ListN.{getD}
 use Rattle.machine.specs.Choice.{pick}
 use Rattle.wire.specs.Fields.{sameBytes}
-use Rattle.wire.specs.Table.{Record, blank}
-use Rattle.wire.specs.Walk.{exportOf}
+use Rattle.wire.specs.Table.{Record, noRecord, exportOf}
 use Rattle.wire.specs.Found.{Named, First}
 use Rattle.wire.specs.declared.table.Export.{Export}
 use Rattle.wire.proofs.BigEndian.{same-bytes-eq, same-bytes-refl}
@@ -26,13 +25,13 @@ not-first r rs name e n =
 behind : {r : Record} {rs : List Record} {name : List ℕ} {k : ℕ} → Named (r ∷ rs) (suc k) name → Named rs k name
 behind n = let l = n .listed in record { listed = omega arith; named = n .named }
 
-pub lookup-some : (rs : List Record) (name : List ℕ) (e : Export) → lookup rs name ≡ some e → (k : ℕ) × First rs name k × (exportOf (getD rs k blank) ≡ e)
+pub lookup-some : (rs : List Record) (name : List ℕ) (e : Export) → lookup rs name ≡ some e → (k : ℕ) × First rs name k × (exportOf (getD rs k noRecord) ≡ e)
 lookup-some [] name e h = absurd (let z : _≡_ {A = ℕ} 0 1 = cc in omega arith)
 lookup-some (r ∷ rs) name e h = go (sameBytes (r .name) name) refl h (lookup-some rs name e)
   where
     go : (b : Bool) → sameBytes (r .name) name ≡ b → pick b (some (exportOf r)) (lookup rs name) ≡ some e
-        → (lookup rs name ≡ some e → (k : ℕ) × First rs name k × (exportOf (getD rs k blank) ≡ e))
-        → (k : ℕ) × First (r ∷ rs) name k × (exportOf (getD (r ∷ rs) k blank) ≡ e)
+        → (lookup rs name ≡ some e → (k : ℕ) × First rs name k × (exportOf (getD rs k noRecord) ≡ e))
+        → (k : ℕ) × First (r ∷ rs) name k × (exportOf (getD (r ∷ rs) k noRecord) ≡ e)
     go true q h more = (0, record { fits = record { listed = omega arith; named = same-bytes-eq (r .name) name q }; before = λ j l. absurd (omega arith) }, cc)
     go false q h more =
         let w = more h in

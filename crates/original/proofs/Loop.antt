@@ -10,14 +10,14 @@ use Rattle.machine.specs.Machine.{on}
 use Rattle.wire.specs.Fields.{Bytes}
 use Rattle.wire.specs.declared.table.Export.{Export}
 use Rattle.server.specs.Session.{Header, Serving, window}
-use Rattle.server.specs.Ranges.{Good}
+use Rattle.server.specs.Inner.{Good}
 use Rattle.server.specs.Exchanges.{Apart, served}
 use Rattle.server.proofs.Bounds.{good-serving}
 use Rattle.server.proofs.Kept.{next-good}
 use Rattle.server.proofs.Untouched.{moves-untouched}
-use Rattle.original.specs.Connection.{Result}
+use Rattle.original.specs.Connection.{Served}
 use Rattle.original.specs.Transmission.{Next, again, stop, onward, oneRequest, transmission}
-use Rattle.original.specs.Server.{placed, inImage, Onward, Within}
+use Rattle.original.specs.Server.{windowed, inImage, Onward, Within}
 use Rattle.original.proofs.Reaches.{reaches-then}
 use Rattle.original.proofs.Meets.{Meets}
 use Rattle.original.proofs.Requests.{Step, step-request}
@@ -27,7 +27,7 @@ bytes-behind [] b h = h
 bytes-behind (x ∷ a) b h = bytes-behind a b (h .1)
 
 -- two images that differ only in the window
-same-place : {e : Export} {m m′ : List ℕ} (bytes : List ℕ) → Apart e m m′ → placed m′ e bytes ≡ placed m e bytes
+same-place : {e : Export} {m m′ : List ℕ} (bytes : List ℕ) → Apart e m m′ → windowed m′ e bytes ≡ windowed m e bytes
 same-place bytes a = rw (a .before, a .behind)
 
 module _ (t : List ℕ) (e : Export) where
@@ -45,8 +45,8 @@ module _ (t : List ℕ) (e : Export) where
       let b : Bytes left = bytes-behind (w .taken) left (rw (w .all-in) at bytes) in
       let l : length left < k = omega (arith, ap length (w .all-in), length-append (w .taken) left, w .some-taken) in
       let rest : Agrees k (w .image) left = all (w .image) left b l (next-good (w .moves) good) (rw (w .holds) at d) in
-      let r : Result = transmission k (window e (w .image)) left in
-      let i : placed (w .image) e (r .device) ≡ placed m e (r .device) = same-place (r .device) (moves-untouched good (w .moves) .had served .apart) in
+      let r : Served = transmission k (window e (w .image)) left in
+      let i : windowed (w .image) e (r .device) ≡ windowed m e (r .device) = same-place (r .device) (moves-untouched good (w .moves) .had served .apart) in
       rw (w .holds) (reaches-then (w .moves) (w .all-in) (rw i at rest))
 
   pub transmission-same : (k : ℕ) → All k

@@ -7,14 +7,14 @@ use mathlib.Core.Path.{_≡_, refl, ap}
 use mathlib.Core.List.{List, [], _++_}
 use Rattle.machine.specs.Machine.{On, on, takes, Moves}
 use Rattle.server.specs.Session.{State, Over, turn}
-use Rattle.original.specs.Connection.{Outcome, ended, Result}
+use Rattle.original.specs.Connection.{Outcome, ended, Served}
 use Rattle.original.specs.Server.{endOf}
 use Rattle.original.proofs.Reaches.{Reaches, reaches-rest, reaches-cut}
 
 abbrev pub outcomeOf : State → Outcome
 outcomeOf y = ended (endOf y)
 
-abbrev pub Meets : List ℕ → On State → List ℕ → Result → Type 0
+abbrev pub Meets : List ℕ → On State → List ℕ → Served → Type 0
 Meets t x input r = Reaches (turn t) outcomeOf x input (r .left) (r .sent) (r .device) (r .outcome)
 
 pub meets-over : {t is os input left m : List ℕ} {x : On State} {n : ℕ} → Moves (turn t) x is os (on (Over n) m) → input ≡ is ++ left

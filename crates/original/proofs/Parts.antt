@@ -14,7 +14,7 @@ use lib.Dec.{eqb}
 use lib.ListN.{length, take, drop, length-append, length-drop, take-append-drop}
 use lib.Seq.{length-take-le}
 use Rattle.machine.specs.Machine.{On, on, takes, Moves, still}
-use Rattle.machine.specs.Bulk.{Gathers, Quiet}
+use Rattle.machine.proofs.Families.{Gathers, Quiet}
 use Rattle.machine.proofs.Moves.{then}
 use Rattle.machine.proofs.Bulk.{folds, drops}
 use Rattle.wire.specs.Fields.{number, sameBytes}
@@ -24,7 +24,7 @@ use Rattle.wire.specs.Lookup.{started}
 use Rattle.wire.specs.declared.utf8.Utf8.the-variants.{Start}
 use Rattle.wire.specs.declared.table.Export.{Export}
 use Rattle.wire.proofs.BigEndian.{same-bytes-refl}
-use Rattle.server.specs.Session.{State, ClientFlags, OptionHead, Shaking, Header, Serving, flagged, opted, payload, passing, naming, requested, turn}
+use Rattle.server.specs.Session.{State, ClientFlags, OptionHead, Shaking, Header, Serving, judgeFlags, judgeOption, payload, passing, naming, requested, turn}
 use Rattle.server.proofs.Header.{each-flags, quiet-flags, each-request, quiet-request, each-option, quiet-option}
 use Rattle.server.proofs.Kept.{picked}
 use Rattle.server.proofs.Names.{Seen, sees, stands, each-seen}
@@ -42,7 +42,7 @@ module _ (t m : List ℕ) where
 
   -- ---- the client's flags
   pub flags-part : (input : List ℕ) → length input < 4 → Moves (turn t) (on (Shaking (ClientFlags [])) m) input [] (on (Shaking (ClientFlags input)) m)
-  flags-part input h = gathered-part (λ got. Shaking (ClientFlags got)) flagged 4 (each-flags t m) [] input (quiet-flags t 0) (omega arith)
+  flags-part input h = gathered-part (λ got. Shaking (ClientFlags got)) judgeFlags 4 (each-flags t m) [] input (quiet-flags t 0) (omega arith)
 
   -- ---- a request
   module _ (e : Export) (input : List ℕ) where
@@ -61,15 +61,15 @@ module _ (t m : List ℕ) where
   -- ---- an option
   module _ (z : Bool) (input : List ℕ) where
     pub option-part : length input < 8 → Moves (turn t) (on (Shaking (OptionHead z [])) m) input [] (on (Shaking (OptionHead z input)) m)
-    option-part h = gathered-part (λ got. Shaking (OptionHead z got)) (opted z t) 8 (each-option z t m) [] input (quiet-option z t 0) (omega arith)
+    option-part h = gathered-part (λ got. Shaking (OptionHead z got)) (judgeOption z t) 8 (each-option z t m) [] input (quiet-option z t 0) (omega arith)
 
     pub option-magic-part : 8 ≤ length input → length input < 16 → take 8 input ≡ IHAVEOPT → Moves (turn t) (on (Shaking (OptionHead z [])) m) input [] (on (Shaking (OptionHead z input)) m)
-    unfolding opted
+    unfolding judgeOption
     option-magic-part enough h right =
         let l : length (take 8 input) ≡ 8 = length-take-le 8 input enough in
         let s : sameBytes (take 8 input) IHAVEOPT ≡ true = rw right (same-bytes-refl IHAVEOPT) in
-        let magic = rw (l, s) at (gather-whole t m (λ got. Shaking (OptionHead z got)) (opted z t) 8 (each-option z t m) [] (take 8 input) (quiet-option z t 0) (omega arith) (omega arith)) in
-        let rest = gathered-part (λ got. Shaking (OptionHead z got)) (opted z t) 16 (each-option z t m) (take 8 input) (drop 8 input) (rw l (quiet-option z t 8)) (omega (arith, length-drop 8 input)) in
+        let magic = rw (l, s) at (gather-whole t m (λ got. Shaking (OptionHead z got)) (judgeOption z t) 8 (each-option z t m) [] (take 8 input) (quiet-option z t 0) (omega arith) (omega arith)) in
+        let rest = gathered-part (λ got. Shaking (OptionHead z got)) (judgeOption z t) 16 (each-option z t m) (take 8 input) (drop 8 input) (rw l (quiet-option z t 8)) (omega (arith, length-drop 8 input)) in
         rw (take-append-drop 8 input) at (then magic rest)
 
     -- the state after a part of the payload, in which a byte is wanted

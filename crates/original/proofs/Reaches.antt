@@ -13,7 +13,7 @@ use lib.ListN.{length, drop, length-drop, take-append-drop}
 use Rattle.machine.specs.Machine.{On, on, Turn, takes, rests, Moves, Stopped}
 use Rattle.machine.specs.Run.{Ran}
 use Rattle.machine.specs.Pieces.{Steps}
-use Rattle.machine.specs.Session.{Session, Finished}
+use Rattle.machine.specs.Stream.{Session, Finished}
 use Rattle.machine.proofs.Moves.{then}
 use Rattle.machine.proofs.Runs.{one-stop, given-length}
 use Rattle.machine.proofs.Cutting.{session-moves, finished-stopped}

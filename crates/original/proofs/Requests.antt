@@ -30,7 +30,7 @@ use Rattle.original.specs.Leaves.{tableFields, replyt}
 use Rattle.original.specs.Connection.{ended}
 use Rattle.original.specs.Copy.{turns}
 use Rattle.original.specs.Transmission.{Next, again, stop, fails, reads, writes, afterRead, command, oneRequest}
-use Rattle.original.specs.Server.{placed, passes, excluded, excludedAt}
+use Rattle.original.specs.Server.{windowed, passes, excluded, excludedAt}
 use Rattle.original.proofs.Leaves.{same-readonly, same-reply}
 use Rattle.original.proofs.Meets.{Meets, meets-over, meets-cut}
 use Rattle.original.proofs.Copies.{copied-read, copied-write}
@@ -60,8 +60,8 @@ unknown typ a b c d f g = go (eqb typ 5) refl (above 4 typ (above 3 typ (above 2
     go false h p = inr (above 6 typ (above 5 typ p (eqb-false typ 5 h)) g)
 
 -- ---- the window in the image
-pub placed-window : (m : List ℕ) (e : Export) → placed m e (window e m) ≡ m
-placed-window m e =
+pub windowed-window : (m : List ℕ) (e : Export) → windowed m e (window e m) ≡ m
+windowed-window m e =
     rw (← drop-drop (e .size) (e .start) m, append-assoc (take (e .start) m) (window e m) (drop (e .size) (drop (e .start) m)), take-append-drop (e .size) (drop (e .start) m)) (take-append-drop (e .start) m)
 
 pub window-sets : (e : Export) (bs m : List ℕ) (off : ℕ) → off + length bs ≤ e .size → sets (window e m) off bs ≡ window e (sets m (e .start + off) bs)
@@ -92,7 +92,7 @@ module _ (t m : List ℕ) (e : Export) where
   abbrev pub Step : List ℕ → Next → Type 0
   Step input (again sent device left) = Went input sent device left
   Step input (stop sent device left outcome) =
-      Meets t (on ready m) input (record { left = left; sent = sent; device = placed m e device; outcome = outcome })
+      Meets t (on ready m) input (record { left = left; sent = sent; device = windowed m e device; outcome = outcome })
 
   module _ (flags handle offset : ℕ) (left : List ℕ) (handle-fits : handle < 2 ^ 64) (offset-fits : offset < 2 ^ 64) (inside : e .start + e .size ≤ length m) where
     abbrev asks : ℕ → ℕ → List ℕ
@@ -116,7 +116,7 @@ module _ (t m : List ℕ) (e : Export) where
 
     -- one that ends the session
     over : (typ len n : ℕ) → Moves (turn t) (on ready m) (request flags typ handle offset len) [] (on (Over n) m) → Step (asks typ len) (stop [] (window e m) left (ended n))
-    over typ len n p = rw (placed-window m e) (meets-over p refl)
+    over typ len n p = rw (windowed-window m e) (meets-over p refl)
 
     module _ (len : ℕ) (len-fits : len < 2 ^ 32) where
       -- ---- READ
@@ -206,13 +206,13 @@ module _ (t m : List ℕ) (e : Export) where
     unfolding oneRequest
     cut h why p =
         let w = window e m in
-        rw (header-short (fails 12 w []) input (fails 10 w) (λ typ handle offset len left. command typ handle offset len w left) h why, placed-window m e) (meets-cut p refl refl)
+        rw (header-short (fails 12 w []) input (fails 10 w) (λ typ handle offset len left. command typ handle offset len w left) h why, windowed-window m e) (meets-cut p refl refl)
 
     other : 4 ≤ length input → (number (take 4 input) ≡ NBD-REQUEST-MAGIC → ⊥) → Step input (oneRequest (window e m) input)
     unfolding oneRequest
     other h n =
         let w = window e m in
-        rw (header-other input (fails 12 w []) (fails 10 w) (λ typ handle offset len left. command typ handle offset len w left) h n, placed-window m e)
+        rw (header-other input (fails 12 w []) (fails 10 w) (λ typ handle offset len left. command typ handle offset len w left) h n, windowed-window m e)
         (meets-over (whole-other-magic t m e (take 4 input) (length-take-le 4 input h) n) (sym (take-append-drop 4 input)))
 
     pub step-request : excludedAt e input ≡ false → Step input (oneRequest (window e m) input)

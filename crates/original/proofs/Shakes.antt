@@ -29,8 +29,8 @@ use Rattle.server.specs.Session.{State, Greeting, ClientFlags, OptionHead, Shak
 use Rattle.server.specs.Exchanges.{Unsupported, UnknownOption}
 use Rattle.server.proofs.Kept.{picked}
 use Rattle.server.proofs.Whole.{greeting-given}
-use Rattle.server.proofs.Options.{whole-flags-1, whole-flags-3, whole-flags-other, option-judged, whole-other-option-magic, whole-too-long}
-use Rattle.server.proofs.Options.{whole-export, whole-export-not-text, whole-export-unknown, whole-abort, whole-list, whole-list-payload, whole-starttls, whole-unsupported, whole-unknown-option}
+use Rattle.server.proofs.Negotiation.{whole-flags-1, whole-flags-3, whole-flags-other, option-judged, whole-other-option-magic, whole-too-long}
+use Rattle.server.proofs.Negotiation.{whole-export, whole-export-not-text, whole-export-unknown, whole-abort, whole-list, whole-list-payload, whole-starttls, whole-unsupported, whole-unknown-option}
 use Rattle.original.specs.Consts.{rustnbd, NBD-OPT-MAGIC}
 use Rattle.original.specs.Leaves.{has, exportFlags, tableFields, fromUtf8, reply, exportReply}
 use Rattle.original.specs.Connection.{readNumber, ended}

@@ -16,8 +16,8 @@ use borrow.Author.Tests.{le-ltb}
 use lib.ListN.{length, take, drop, length-append}
 use lib.Seq.{take-append-seam, drop-append-seam}
 use Rattle.machine.specs.Machine.{On, on, owes}
-use Rattle.machine.specs.Run.{reached, run}
-use Rattle.machine.specs.Session.{Session, Finished}
+use Rattle.machine.specs.Run.{reached, runFor}
+use Rattle.machine.specs.Stream.{Session, Finished}
 use Rattle.machine.proofs.Runs.{runs}
 use Rattle.machine.proofs.Cutting.{one-piece, finished-stopped}
 use Rattle.wire.specs.Fields.{be, Bytes}
@@ -25,12 +25,13 @@ use Rattle.wire.specs.Table.{fault}
 use Rattle.server.specs.Session.{State, Greeting, ClientFlags, OptionHead, Naming, Passing, Listing, Declining, Aborting, Exporting, Shaking, turn}
 use Rattle.server.specs.Session.{Header, Storing, Dropping, Replying, Sending, Serving, Over}
 use Rattle.server.specs.View.{view, code}
-use Rattle.server.specs.Ranges.{inRange, Good}
-use Rattle.server.specs.Contract.{Serves, owesOutput, closedAt, endOfInput, headerOf, Heads}
+use Rattle.server.specs.Ranges.{inRange}
+use Rattle.server.specs.Inner.{Good}
+use Rattle.server.specs.Contract.{Serves, owesOutput, endedAt, endOfInput, headerOf, Heads}
 use Rattle.server.specs.History.{Reached, fresh, stepped, Calls, done, call}
 use Rattle.server.specs.declared.state.Server.{Server}
 use Rattle.server.specs.declared.Stepped.{Stepped}
-use Rattle.server.specs.declared.Outcome.the-variants.{Ended}
+use Rattle.server.specs.declared.state.Outcome.the-variants.{Ended}
 use Rattle.server.specs.declared.oldstyle.HeaderAnswer.{HeaderAnswer}
 use Rattle.server.proofs.Kept.{next-good}
 use Rattle.server.proofs.Result.{in-range-for-ever}
@@ -67,7 +68,7 @@ same-owed t m (Over n) = refl
 closes : (t m : List ℕ) {rest : List ℕ} (s : Server) → inRange s ≡ true → Finished (turn t (on (view s) m)) rest → endOfInput s .outcome ≡ Ended (endOf (view s))
 closes t m s h f = rw h (go (view s) (sym (same-owed t m (view s)) ∙ f .none-owed))
   where
-    go : (x : State) → owesOutput x ≡ false → closedAt s x .outcome ≡ Ended (endOf x)
+    go : (x : State) → owesOutput x ≡ false → endedAt s x .outcome ≡ Ended (endOf x)
     go (Shaking p) e = rw e
     go (Serving x p) e = rw e
     go (Over n) e = refl
@@ -100,11 +101,11 @@ module _ (t m input : List ℕ) (sound : fault (length m) t ≡ 0) (bytes : Byte
   -- where it stands at the end, and that it comes there
   pub run-same : (y : State) × (ended (endOf y) ≡ session t m input .outcome)
       × ((k room : ℕ) → length input + length (session t m input .sent) ≤ k → length (session t m input .sent) ≤ room
-      → run (turn t) k (on start m) input room ≡ reached (on y (session t m input .device)) (session t m input .left) (session t m input .sent))
+      → runFor (turn t) k (on start m) input room ≡ reached (on y (session t m input .device)) (session t m input .left) (session t m input .sent))
   run-same = (meets .state, meets .answers, λ k room fuel h. go k room fuel h)
     where
       go : (k room : ℕ) → length input + length (session t m input .sent) ≤ k → length (session t m input .sent) ≤ room
-          → run (turn t) k (on start m) input room ≡ reached (on (meets .state) (session t m input .device)) (session t m input .left) (session t m input .sent)
+          → runFor (turn t) k (on start m) input room ≡ reached (on (meets .state) (session t m input .device)) (session t m input .left) (session t m input .sent)
       go k room fuel h =
           let r = session t m input in
           let e : length (r .sent) + (room - length (r .sent)) ≡ room = omega arith in

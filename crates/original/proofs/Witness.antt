@@ -14,8 +14,8 @@ use Rattle.wire.specs.Table.{recordBytes, front, sized, recordsIn, records, wir
 use Rattle.wire.specs.Lookup.{started}
 use Rattle.wire.proofs.BigEndian.{same-bytes-refl}
 use Rattle.server.specs.Request.{owed}
-use Rattle.machine.specs.Session.{Finished}
-use Rattle.server.specs.Session.{turn, flagged, named, payload, opted, requested}
+use Rattle.machine.specs.Stream.{Finished}
+use Rattle.server.specs.Session.{turn, judgeFlags, named, payload, judgeOption, requested}
 use Rattle.original.specs.Consts.{NBD-CMD-FLUSH}
 use Rattle.original.specs.Leaves.{has, exportFlags, octets, greeting, exportReply, replyt, exportName, sendrequest}
 use Rattle.original.specs.Connection.{sudden-eof}
@@ -25,7 +25,8 @@ use Rattle.original.specs.Copy.{turns, writeAll}
 use Rattle.original.specs.Handshake.{option, options, handshake}
 use Rattle.original.specs.Transmission.{command, oneRequest, transmission}
 use Rattle.original.specs.Server.{session}
-use Rattle.original.specs.Witness.{Witness, image, table, input, tests, ran, Differs, pastRead, pastWrite, readOnlyWrite, cutWrite, same, measured, AfterFault, WhileOwed, longName, LongName}
+use Rattle.wire.specs.Cases.{same}
+use Rattle.original.specs.Witness.{Witness, image, table, input, tests, ran, Differs, pastRead, pastWrite, readOnlyWrite, cutWrite, measured, AfterFault, WhileOwed, longName, LongName}
 
 different : (a b : List ℕ) → sameBytes a b ≡ false → a ≡ b → ⊥
 different a b h e =
@@ -45,7 +46,7 @@ pub all-differ :
     × ((tests pastWrite ≡ false ∷ true ∷ false ∷ false ∷ []) × Differs pastWrite)
     × ((tests readOnlyWrite ≡ false ∷ false ∷ true ∷ false ∷ []) × Differs readOnlyWrite)
     × ((tests cutWrite ≡ false ∷ false ∷ false ∷ true ∷ []) × Differs cutWrite)
-unfolding be number sameBytes wire.greeting wire.exportReply wire.simpleReply next lead recordBytes front sized recordsIn records wireFlags started owed flagged named payload opted requested has exportFlags octets greeting exportReply replyt turns writeAll option options handshake command oneRequest transmission
+unfolding be number sameBytes wire.greeting wire.exportReply wire.simpleReply next lead recordBytes front sized recordsIn records wireFlags started owed judgeFlags named payload judgeOption requested has exportFlags octets greeting exportReply replyt turns writeAll option options handshake command oneRequest transmission
 all-differ = (
   (refl, by-sent pastRead (record { none-left = λ w. refl; none-owed = refl }) refl),
   (refl, by-sent pastWrite (record { none-left = λ w. refl; none-owed = refl }) refl),

@@ -1,10 +1,19 @@
 -- Document 000's client, on values.
 --   NbdClient          the client: the size and the position
+--   at c p             the client with its position at p
 --   Answer, Done       what a call comes to; with what is left of the input, what was sent and what the buffer holds
+--   stops, sends       a call that ends with an answer, and nothing more sent; bytes that are sent before the rest
 --   effectiveLen       `get_effective_len`
 --   getreply           `getreply`, with `check_err`
---   read, write, flush, trim, resize, seek   the calls
---   handshake          `handshake`, new style and old; fillInFlags: the five fields
+--   exchange           a request, with its payload behind it, and the reply; then the rest of the call
+--   fill               a read's data, into the buffer
+--   readSome, writeSome, trimSome   a read, a write and a trim, by `get_effective_len`'s answer
+--   seekTo, target     a seek, by the position that it leads to; that position
+--   Call, made         a call: read, write, flush, trim, resize or seek; what it comes to
+--   field, fillInFlags   one of the five fields, as 0 or 1; all five
+--   zeroes             the last of the handshake: the 124 bytes, and the client that is made
+--   newstyle, oldstyle   the rest of the handshake behind the second magic, in either style
+--   handshake          `handshake`, new style and old
 use Prim.Native.Nat.{ℕ, zero, suc, min, _+_, _-_, _%_, _^_}
 use mathlib.Core.Bool.{not}
 use mathlib.Core.List.{List, [], _∷_, _++_}

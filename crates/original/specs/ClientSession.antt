@@ -1,8 +1,19 @@
 -- A client's session: its handshake and calls one after the other, up to the first fault; as document 000 has it, and as a host has it of the port.
 --   Told            what is left of the input, what was sent, and the results: a call's number and values and what its buffer holds afterwards
---   session         document 000; Domain: what the oracle domain asks of a session
+--   silence, tells  nothing sent and no result; a result and the bytes that were sent for it, before the rest
+--   resultOf        the result of an answer of 000's client
+--   onward          the calls behind an answer: none behind a fault
+--   calls, uses     a call and what follows it; a list of calls
+--   session         document 000: the handshake and the calls
+--   asked, buffer   a call, as the port is asked for it; what is lent while it is open
+--   told            the result of an outcome of the port
+--   isOpen, isClosed   whether an outcome leaves the call open; whether a call was just closed
+--   Stepped         an open call: the client is stepped over the input, cut in any way, until nothing more moves
+--   closing, ending   what is told of a call that was closed; of one that the end of input or of the session leaves open
+--   Hosted          the port, as Hosts has it, from a client whose handshake is closed
 --   Hosts           the port: the host makes each call, steps the client over the input, cut as it likes, until nothing more moves, and reports the end of
---                   input where the call is still open; Hosted: from a client whose handshake is closed
+--                   input where the call is still open
+--   Domain          what the oracle domain asks of a session
 use Prim.Native.Nat.{ℕ, _≤_}
 use mathlib.Core.Path.{_≡_}
 use mathlib.Core.Bool.{Bool, true, false}
@@ -10,7 +21,8 @@ use mathlib.Core.List.{List, [], _∷_, _++_}
 use mathlib.Core.Option.{Option, none, some}
 use lib.ListN.{length}
 use Rattle.machine.specs.Machine.{on}
-use Rattle.machine.specs.Session.{Finished}
+use Rattle.machine.specs.Stream.{Finished}
+use Rattle.wire.specs.Results.{Result}
 use Rattle.client.specs.Session.{State, Blank, Shaking, Ready, Calling, Closed, Over, turn}
 use Rattle.client.specs.View.{code}
 use Rattle.client.specs.Contract.{after, outcomeOf, numberOf, valuesOf, endOfInput, fresh}
@@ -20,11 +32,6 @@ use Rattle.client.specs.declared.state.Client.{Client}
 use Rattle.client.specs.declared.state.Outcome.{Outcome}
 use Rattle.client.specs.declared.state.Outcome.the-variants.{Open, Succeeded, Failed, Ended, Refused}
 use Rattle.original.specs.Client.{NbdClient, Answer, ok, failed, refused, fault, Done, Call, read, write, flush, trim, resize, seek, made, handshake}
-
-pub record Result : Type 0 where
-  pub number : Option ℕ
-  pub values : List ℕ
-  pub buffer : List ℕ
 
 pub record Told : Type 0 where
   pub left : List ℕ

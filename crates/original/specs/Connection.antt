@@ -2,7 +2,7 @@
 --   readExact    `read_exact`: n bytes and what is left behind them; on too few it takes them all, and the function ends
 --   readNumber   a big-endian number of n bytes
 --   Outcome      how a session ends: with 01's number for 000's message, or with the one message for which 01 has none
---   Result       what is left of the input, what was sent, what the device holds and the outcome
+--   Served       what is left of the input, what was sent, what the device holds and the outcome
 --   sends        bytes are sent, and then it goes on
 use Prim.Native.Nat.{ℕ}
 use mathlib.Core.List.{List, _++_}
@@ -22,11 +22,11 @@ pub data Outcome : Type 0 where
   ended : ℕ → Outcome
   sudden-eof : Outcome
 
-pub record Result : Type 0 where
+pub record Served : Type 0 where
   pub left : List ℕ
   pub sent : List ℕ
   pub device : List ℕ
   pub outcome : Outcome
 
-abbrev pub sends : List ℕ → Result → Result
+abbrev pub sends : List ℕ → Served → Served
 sends bytes r = record { left = r .left; sent = bytes ++ r .sent; device = r .device; outcome = r .outcome }

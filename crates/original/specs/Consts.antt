@@ -1,6 +1,17 @@
 -- Document 000's constants as literals read from lib.rs: `mod consts` under its own names, and the magics, which its functions write out, under the port's.
 -- Nothing of the port's values stands here, so that one that is changed there is refused (the first laws of proofs/Leaves.antt).
 -- `1 << k` is 2 ^ k, and `|` is bitOr. What no function of 000 uses is left out.
+--   NBDMAGIC, IHAVEOPT, OLDSTYLE, rustnbd                                              the fixed strings; the last with its length before it
+--   NBD-OPT-MAGIC, NBD-OPT-REPLY-MAGIC, NBD-REQUEST-MAGIC, NBD-REPLY-MAGIC             magic numbers
+--   NBD-OPT-EXPORT-NAME, NBD-OPT-ABORT, NBD-OPT-LIST, NBD-OPT-STARTTLS                 options
+--   NBD-OPT-INFO, NBD-OPT-GO, NBD-OPT-STRUCTURED-REPLY, NBD-OPT-EXTENDED-HEADERS       options
+--   NBD-REP-ACK, NBD-REP-SERVER, NBD-REP-FLAG-ERROR, NBD-REP-ERR-UNSUP                 option replies; the third is the bit of those that are errors
+--   NBD-FLAG-FIXED-NEWSTYLE, NBD-FLAG-NO-ZEROES                                        handshake flags of the server
+--   NBD-FLAG-C-FIXED-NEWSTYLE, NBD-FLAG-C-NO-ZEROES                                    handshake flags of the client
+--   NBD-FLAG-HAS-FLAGS, NBD-FLAG-READ-ONLY, NBD-FLAG-SEND-FLUSH                        an export's flags
+--   NBD-FLAG-ROTATIONAL, NBD-FLAG-SEND-TRIM, NBD-FLAG-SEND-RESIZE                      an export's flags
+--   NBD-CMD-READ, NBD-CMD-WRITE, NBD-CMD-DISC, NBD-CMD-FLUSH                           request types
+--   NBD-CMD-TRIM, NBD-CMD-WRITE-ZEROES, NBD-CMD-RESIZE                                 request types
 use Prim.Native.Nat.{ℕ, _^_}
 use mathlib.Core.List.{List, [], _∷_}
 use lib.Bits.{bitOr}

@@ -1,8 +1,12 @@
 -- `mycopy` of document 000: from a reader to a writer, in parts of at most 65,536 bytes, until `limit` bytes are copied or the reader has no more.
 --   Written        what `write_all` comes to: all was written, or what fits
---   Copied         what is left of the reader, the writer, and how many bytes were copied; none where a write failed
+--   Copied, copied   what is left of the reader, the writer, and how many bytes were copied; none where a write failed
+--   buf            the length of the buffer
+--   wrote, part    a turn of the loop, behind its write; behind its read
+--   turns          the loop
 --   mycopy         the copy; `first` is done before the first write
 --   Cursor, writeAll   a device of a fixed size with a position, and `write_all` on it: as much as fits
+--   fitting, put   of the bytes those that fit; the device with bytes at its position, which moves behind them
 use Prim.Native.Nat.{ℕ, zero, suc, min, _+_, _-_}
 use mathlib.Core.List.{List, [], _∷_, _++_}
 use mathlib.Core.Option.{Option, none, some}

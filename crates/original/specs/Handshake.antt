@@ -1,7 +1,11 @@
 -- `handshake` of document 000's server, on values.
 --   Shaken        an export was chosen, or it failed with 01's number; what is left of the input and what was sent
+--   writes, fails, cut   bytes are sent before the rest; it fails with nothing more sent; it fails where a read meets the end of the input
 --   lookup        the callback: the first record of that name
---   option        the match on an option whose payload was read; options: the loop
+--   zeroes        whether the client's flags leave the 124 bytes in the reply to EXPORT_NAME
+--   found         EXPORT_NAME, by the callback's answer
+--   option        the match on an option whose payload was read
+--   options       the loop
 --   handshake t   the whole, with the table t
 use Prim.Native.Nat.{ℕ, zero, suc}
 use mathlib.Core.Bool.{Bool, not}

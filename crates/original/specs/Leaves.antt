@@ -2,8 +2,14 @@
 --   has                     `flags & k != 0`
 --   Fields, exportFlags     the fields of an `Export` that its flags are made of; the flags that answer EXPORT_NAME
 --   tableFields             the fields that the callback finds in a table's flags byte
+--   orIf                    `if b { flags |= k }`
+--   tail, behind            a tail byte of UTF-8; which bytes follow a first one, none where that begins no character
+--   begins, octets          the rest of a text, if its first byte begins a character; the bytes that complete a character, and then characters
 --   fromUtf8                std's `from_utf8`
---   checkedAddI64           `checked_add_i64`; clampToU32: `clamp_to_u32`
+--   checkedAdd, checkedSub, checkedNeg   `checked_add` and `checked_sub` of a u64, and `checked_neg` of the i64 -n
+--   takeAway                `checked_sub` of a number that may not be there
+--   checkedAddI64           `checked_add_i64`
+--   clampToU32              `clamp_to_u32`
 --   u16, u32, u64, zeros    `write_u16`, `write_u32`, `write_u64` and `write_all(&[0; 124])`
 --   oldstyleHeader, greeting, reply, exportReply, replyt   what the server writes
 --   exportName, sendrequest                                what the client writes

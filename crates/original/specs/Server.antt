@@ -1,9 +1,16 @@
 -- A server's session as document 000 has it, and 01's oracle domain.
---   window, placed   the device of an export: its part of the image; the image with that part's bytes in their place
+--   window, windowed   the device of an export: its part of the image; the image with that part's bytes in their place
+--   inImage        what the transmission comes to, with the image in place of the window
+--   serve m        the session behind what the handshake came to
 --   session t m    the handshake, then the transmission on the window of the export that was chosen
+--   passes e       a request of length above 0 that passes the window's end
 --   readPast, writePast, writeReadOnly, writeCut   01's exclusions, of one request
+--   excluded, excludedAt   any of them, of a request's fields and what is left behind them; of the request at the front of the input
+--   Onward, Within   what is asked of the rest where the loop goes on; no request that the loop comes to is excluded
+--   DomainAfter m  the domain behind what the handshake came to
 --   Domain t m     no request that the session comes to is excluded
---   endOf y        the number that the machine ends with; Same: a session of the machine is as a result says
+--   endOf y        the number that the machine ends with
+--   Same           a session of the machine is as a result says
 use Prim.Native.Nat.{ℕ, zero, suc, _+_}
 use mathlib.Core.Path.{_≡_}
 use mathlib.Core.Bool.{Bool, false}
@@ -15,25 +22,25 @@ use Rattle.wire.specs.declared.table.Export.{Export}
 use Rattle.server.specs.Session.{State, Shaking, Serving, Over}
 use Rattle.original.specs.Consts.{NBD-CMD-READ, NBD-CMD-WRITE}
 use Rattle.original.specs.Leaves.{tableFields}
-use Rattle.original.specs.Connection.{ended, Result, sends}
+use Rattle.original.specs.Connection.{ended, Served, sends}
 use Rattle.original.specs.Handshake.{Shaken, chose, failed, handshake}
 use Rattle.original.specs.Transmission.{Next, again, stop, header, oneRequest, transmission}
 
 abbrev pub window : Export → List ℕ → List ℕ
 window e m = take (e .size) (drop (e .start) m)
 
-abbrev pub placed : List ℕ → Export → List ℕ → List ℕ
-placed m e bytes = take (e .start) m ++ bytes ++ drop (e .start + e .size) m
+abbrev pub windowed : List ℕ → Export → List ℕ → List ℕ
+windowed m e bytes = take (e .start) m ++ bytes ++ drop (e .start + e .size) m
 
 -- the device is the window; what it holds afterwards stands in the image
-abbrev pub inImage : List ℕ → Export → Result → Result
-inImage m e r = record { left = r .left; sent = r .sent; device = placed m e (r .device); outcome = r .outcome }
+abbrev pub inImage : List ℕ → Export → Served → Served
+inImage m e r = record { left = r .left; sent = r .sent; device = windowed m e (r .device); outcome = r .outcome }
 
-abbrev pub serve : List ℕ → Shaken → Result
+abbrev pub serve : List ℕ → Shaken → Served
 serve m (failed n left sent) = record { left = left; sent = sent; device = m; outcome = ended n }
 serve m (chose e left sent) = sends sent (inImage m e (transmission (suc (length left)) (window e m) left))
 
-abbrev pub session : List ℕ → List ℕ → List ℕ → Result
+abbrev pub session : List ℕ → List ℕ → List ℕ → Served
 session t m input = serve m (handshake t input)
 
 -- ---- the oracle domain: "all requests except a READ of length above 0 that passes the window's end, a WRITE of length above 0 that passes it, a WRITE
@@ -84,7 +91,7 @@ endOf (Serving e p) = 12
 endOf (Over n) = n
 
 -- a session that stands at y with the image m′, where these bytes were given and those of the input are left, is as the result says
-pub record Same (r : Result) (given : List ℕ) (y : State) (m′ rest : List ℕ) : Type 0 where
+pub record Same (r : Served) (given : List ℕ) (y : State) (m′ rest : List ℕ) : Type 0 where
   pub same-left : rest ≡ r .left
   pub same-sent : given ≡ r .sent
   pub same-image : m′ ≡ r .device

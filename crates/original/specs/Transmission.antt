@@ -1,8 +1,14 @@
 -- `transmission` of document 000's server, on values. The device is a `Cursor` over the export's window, whose `seek` never fails.
 --   Next            a request was answered and the loop goes on, or the function ends
+--   fails           it ends with a number, and nothing was sent
+--   toWire          `write_all` on the connection, which takes all
+--   readDone, afterRead     READ, by how many bytes were copied; by what `mycopy` comes to
+--   writeDone, afterWrite   WRITE likewise
 --   reads, writes   READ and WRITE, by `mycopy`
 --   command         the match on a request's type
---   header          a request's fields; oneRequest: one turn of the loop
+--   header          a request's fields
+--   oneRequest      one turn of the loop
+--   onward          how the loop goes on
 --   transmission    the loop
 use Prim.Native.Nat.{ℕ, zero, suc}
 use mathlib.Core.Bool.{not}
@@ -13,7 +19,7 @@ use lib.ListN.{drop}
 use Rattle.machine.specs.Choice.{pick}
 use Rattle.original.specs.Consts.{NBD-REQUEST-MAGIC, NBD-CMD-READ, NBD-CMD-WRITE, NBD-CMD-DISC, NBD-CMD-FLUSH, NBD-CMD-TRIM, NBD-CMD-WRITE-ZEROES}
 use Rattle.original.specs.Leaves.{replyt}
-use Rattle.original.specs.Connection.{readNumber, Outcome, ended, sudden-eof, Result, sends}
+use Rattle.original.specs.Connection.{readNumber, Outcome, ended, sudden-eof, Served, sends}
 use Rattle.original.specs.Copy.{Written, all, Copied, mycopy, Cursor, writeAll}
 
 -- what was sent, what the device holds and what is left of the input
@@ -79,11 +85,11 @@ unfoldable pub oneRequest : List ℕ → List ℕ → Next
 oneRequest device input = header input (fails 12 device []) (fails 10 device) (λ typ handle offset length left. command typ handle offset length device left)
 
 -- how the loop goes on
-abbrev pub onward : Next → (List ℕ → List ℕ → Result) → Result
+abbrev pub onward : Next → (List ℕ → List ℕ → Served) → Served
 onward (again sent device left) more = sends sent (more device left)
 onward (stop sent device left outcome) more = record { left = left; sent = sent; device = device; outcome = outcome }
 
 -- the loop, which turns once for each request; every request has 28 bytes, so that the turns never run out
-unfoldable pub transmission : ℕ → List ℕ → List ℕ → Result
+unfoldable pub transmission : ℕ → List ℕ → List ℕ → Served
 transmission zero device input = record { left = []; sent = []; device = device; outcome = ended 12 }
 transmission (suc k) device input = onward (oneRequest device input) (transmission k)

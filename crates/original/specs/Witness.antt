@@ -1,11 +1,19 @@
 -- A small session for each of 01's exclusions. At the server: a table with one export of 8 bytes and the empty name, and one request.
 --   Witness     the export's flags, the request's type, offset and length, and the bytes behind its header
---   request     a request's bytes, with handle 7; input: what the client sends: its flags, EXPORT_NAME and the request
+--   image, export, table   the image; the export, and the table that has it
+--   request     a request's bytes, with handle 7
+--   input       what the client sends: its flags, EXPORT_NAME and the request
 --   tests       which of the four exclusions the request falls under, in 01's order
+--   ran         what the machine comes to over the whole input
+--   stateOf, imageOf   the state and the image of a place of the machine
 --   Differs     the machine finishes over it, and not as document 000 does
 --   pastRead, pastWrite, readOnlyWrite, cutWrite   the witnesses
---   AfterFault, WhileOwed, LongName   the same for the client: how the two differ there
+--   told, asks  what one request comes to, as a list; a single request, beside what it is expected to come to
 --   measured    what the crate was measured to do with single requests: sent, device, left and outcome, beside what the definition gives
+--   plain, device   a client of 8 bytes at the position 0, as document 000 has it, and as the port has it
+--   wrong, right    a reply with another signature, and a good one
+--   longName    a name of 4,097 bytes
+--   AfterFault, WhileOwed, LongName   the same for the client: how the two differ there
 use Prim.Native.Nat.{ℕ}
 use mathlib.Core.Path.{_≡_}
 use mathlib.Core.Bool.{Bool, true}
@@ -13,10 +21,10 @@ use mathlib.Core.List.{List, [], _∷_, _++_}
 use lib.ListN.{length, replicate}
 use Rattle.machine.specs.Choice.{both}
 use Rattle.machine.specs.Machine.{On, on, owes}
-use Rattle.machine.specs.Run.{Ran, run}
-use Rattle.machine.specs.Session.{Finished}
-use Rattle.wire.specs.Fields.{sameBytes}
+use Rattle.machine.specs.Run.{Ran, runFor}
+use Rattle.machine.specs.Stream.{Finished}
 use Rattle.wire.specs.Table.{tableBytes}
+use Rattle.wire.specs.Cases.{Case, is}
 use Rattle.wire.specs.declared.table.Export.{Export}
 use Rattle.server.specs.Session.{State, Greeting, Shaking, turn}
 use Rattle.client.specs.Calls.{fieldsOf}
@@ -68,7 +76,7 @@ tests w =
 
 -- the machine over the whole input, with fuel and room to spare
 abbrev pub ran : Witness → Ran (On State)
-ran w = run (turn (table w)) 200 (on (Shaking (Greeting 18)) image) (input w) 200
+ran w = runFor (turn (table w)) 200 (on (Shaking (Greeting 18)) image) (input w) 200
 
 abbrev pub stateOf : On State → State
 stateOf (on x m) = x
@@ -93,14 +101,6 @@ abbrev pub cutWrite : Witness
 cutWrite = record { flags = 0; type = NBD-CMD-WRITE; offset = 0; len = 2; behind = 1 ∷ [] }
 
 -- ---- single requests with handle 7, over the image as the device
-pub record Case : Type 0 where
-  pub found : List ℕ
-  pub expected : List ℕ
-
-abbrev pub same : List Case → Bool
-same [] = true
-same (c ∷ cs) = both (sameBytes (c .found) (c .expected)) (same cs)
-
 -- going on is 256, "sudden EOF" is 257; each part has its length before it
 abbrev pub told : Next → List ℕ
 told (again sent device left) = 256 ∷ length sent ∷ sent ++ device ++ length left ∷ left
@@ -109,7 +109,7 @@ told (stop sent device left (ended n)) = n ∷ length sent ∷ sent ++ device ++
 
 abbrev pub asks : ℕ → ℕ → ℕ → List ℕ → Next → Case
 asks type offset len behind expected =
-    record { found = told (oneRequest image (request type offset len ++ behind)); expected = told expected }
+    is (told (oneRequest image (request type offset len ++ behind))) (told expected)
 
 abbrev pub measured : List Case
 measured =

@@ -5,7 +5,6 @@ mod print;
 mod schedule;
 mod script;
 
-use ends::After;
 use ends::Ends;
 use script::Call;
 ghost use mathlib.Core.Path.{_≡_};
@@ -21,15 +20,15 @@ fn closes(
     up: &mut [u8],
     down: &mut [u8],
 ) -> Ends {
-    let c = e.client;
+    let mut made = e;
+    let c = made.client;
     let r = script::make(k, c, lent);
-    let client = r.state;
-    let outcome = r.outcome;
-    let ends = e.with_client(client);
-    let closed = ends::close(After { ends, outcome }, lent, image, up, down);
+    made.client = r.state;
+    made.outcome = r.outcome;
+    let closed = ends::close(made, lent, image, up, down);
     let o = closed.outcome;
     print::call(k, o, lent);
-    closed.ends
+    closed
 }
 
 // The i-th call.

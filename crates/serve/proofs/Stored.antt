@@ -17,7 +17,7 @@ use lib.Dec.{eqb, ltb, leb}
 use lib.ListN.{length, take, drop, length-append, length-take}
 use lib.Seq.{take-at, drop-at, length-take-le}
 use Rattle.machine.specs.Machine.{On, on, Turn, gives, takes, rests, Moves, still, by-give, by-take}
-use Rattle.machine.specs.Bulk.{less}
+use Rattle.machine.specs.Parts.{less}
 use Rattle.machine.proofs.Moves.{unmoved}
 use Rattle.machine.proofs.Runs.{taken-length}
 use Rattle.wire.specs.Fields.{number, field, sameBytes}
@@ -29,9 +29,10 @@ use Rattle.wire.specs.declared.table.Export.{Export}
 use Rattle.server.specs.Request.{requestOf, owed}
 use Rattle.server.specs.Session.{Greeting, ClientFlags, OptionHead, Naming, Passing, Listing, Declining, Aborting, Exporting}
 use Rattle.server.specs.Session.{Header, Storing, Dropping, Replying, Sending, State, Shaking, Serving, Over}
-use Rattle.server.specs.Session.{flagged, answered, passing, found, named, naming, payload, opted, storing, dropping, begun, requested, turn}
+use Rattle.server.specs.Session.{judgeFlags, answered, passing, found, named, naming, payload, judgeOption, storing, dropping, begun, requested, turn}
 use Rattle.server.specs.View.{view}
-use Rattle.server.specs.Ranges.{refusal, Good}
+use Rattle.server.specs.Ranges.{refusal}
+use Rattle.server.specs.Inner.{Good}
 use Rattle.server.specs.Contract.{Serves}
 use Rattle.server.specs.declared.state.Server.{Server}
 use Rattle.server.specs.declared.Stepped.{Stepped}
@@ -55,8 +56,8 @@ Calm n (Serving e (Sending off left)) = Unit {0}
 Calm n (Over k) = Unit {0}
 
 module _ (n : ℕ) where
-  calm-flagged : (h : List ℕ) → Calm n (flagged h)
-  unfolding flagged
+  calm-flagged : (h : List ℕ) → Calm n (judgeFlags h)
+  unfolding judgeFlags
   calm-flagged h =
       picked (Calm n) (ltb (length h) 4) (λ _. tt)
       λ _. picked (Calm n) (eqb (number h) 1) (λ _. tt) λ _. picked (Calm n) (eqb (number h) 3) (λ _. tt) (λ _. tt)
@@ -85,8 +86,8 @@ module _ (n : ℕ) where
   calm-naming z t fits text at zero = picked (Calm n) (whole text) (λ _. calm-found z t (chosen fits)) (λ _. tt)
   calm-naming z t fits text at (suc left) = tt
 
-  calm-opted : (z : Bool) (t h : List ℕ) → Calm n (opted z t h)
-  unfolding opted payload
+  calm-opted : (z : Bool) (t h : List ℕ) → Calm n (judgeOption z t h)
+  unfolding judgeOption payload
   calm-opted z t h =
       picked (Calm n) (eqb (length h) 8) (λ _. picked (Calm n) (sameBytes h IHAVEOPT) (λ _. tt) (λ _. tt))
       λ _. picked (Calm n) (ltb (length h) 16) (λ _. tt)

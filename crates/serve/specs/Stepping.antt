@@ -1,6 +1,9 @@
 -- How `serve` steps: it takes and gives apart, so that what was stored is in the file before a reply goes out.
 --   offered x n      how many of n bytes a step from x is offered: none behind a request's header, nor behind a payload that is stored
+--   offeredServing   the same in the transmission
+--   none             the empty part
 --   changed x k      the part of the image that a step from x stored, if it took k bytes
+--   changedAt, changedServing   the same, where k is above 0; and in the transmission
 --   LiesIn n p       a part lies in an image of n bytes
 --   InWindow x p     it lies in the window of the export that is served, or is empty
 --   Parted x m m′ p  from m to m′ the image changed in the part p only, which lies in it and in the window

@@ -3,7 +3,7 @@ use crate::stepping;
 use host::files;
 use libc::STDIN_FILENO;
 use libc::STDOUT_FILENO;
-use server::Outcome;
+use server::state::Outcome;
 use server::state::Server;
 ghost use mathlib.Core.Path.{_≡_};
 ghost use Prim.Native.Nat.{_+_, _≤_};

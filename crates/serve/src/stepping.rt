@@ -93,7 +93,7 @@ pub fn take(s: Server, table: &[u8], image: &mut [u8], input: &[u8]) -> Taken
 {
     let n = offered(s, input.len());
     let mut room = [0u8; 0];
-    let step = s.step(table, image, &input[..n], &mut room);
+    let step = s.step(&input[..n], &mut room, table, image);
     let part = changed(s, step.taken, image.len());
     Taken { step, part }
 }
@@ -102,5 +102,5 @@ pub fn take(s: Server, table: &[u8], image: &mut [u8], input: &[u8]) -> Taken
 pub fn give(s: Server, table: &[u8], image: &mut [u8], room: &mut [u8]) -> Stepped
     ensures { λ r. ⌜ Gives s (now (table .entry)) (now (image .entry)) (now (room .entry)) r (now (image .exit)) (now (room .exit)) ⌝ }
 {
-    s.step(table, image, b"", room)
+    s.step(b"", room, table, image)
 }

@@ -17,7 +17,8 @@ use Rattle.wire.specs.Table.{readOnly}
 use Rattle.wire.specs.declared.table.Export.{Export}
 use Rattle.wire.proofs.Tests.{both-left, both-right}
 use Rattle.server.specs.Session.{Transmission, Serving}
-use Rattle.server.specs.Ranges.{unsupported, part, behind, rangedServing, ranged, tidy, inRange, outside, lent, refusal, Good}
+use Rattle.server.specs.Ranges.{unsupported, part, behind, rangedServing, ranged, tidy, inRange, windowFault, loanFault, refusal}
+use Rattle.server.specs.Inner.{Good}
 use Rattle.server.specs.View.{view}
 use Rattle.server.specs.declared.state.Server.{Server}
 use Rattle.server.proofs.Tests.{head-short}
@@ -56,7 +57,7 @@ replying-bounds e error left off len h = between-true 1 16 left (both-left (betw
 pub head-below : (h : List ℕ) (have k : ℕ) → length h ≡ 28 → k ≤ 28 → ltb (length (take have h)) k ≡ true → have < k
 head-below h have k long fits e = ltb-true have k (head-short h have k long fits ∙ e)
 
-inside : (n : ℕ) (e : Export) → outside n e ≡ 0 → e .start + e .size ≤ n
+inside : (n : ℕ) (e : Export) → windowFault n e ≡ 0 → e .start + e .size ≤ n
 inside n e h = go (leb (e .start + e .size) n) refl h
   where
     go : (b : Bool) → leb (e .start + e .size) n ≡ b → pick {A = ℕ} b 0 26 ≡ 0 → e .start + e .size ≤ n
@@ -70,6 +71,6 @@ good-serving {n = n} {e = e} {p = p} g = (both-right (ltb (e .flags) 16) (ranged
 pub accepted : (t : List ℕ) (n : ℕ) (s : Server) → refusal t n s ≡ 0 → Good t n (view s)
 accepted t n s e = go (inRange s) refl e
   where
-    go : (b : Bool) → inRange s ≡ b → pick b (lent t n (view s)) 27 ≡ 0 → Good t n (view s)
+    go : (b : Bool) → inRange s ≡ b → pick b (loanFault t n (view s)) 27 ≡ 0 → Good t n (view s)
     go true p q = record { within = both-right (tidy s) (ranged (view s)) p; fits = q }
     go false p q = absurd (omega arith)

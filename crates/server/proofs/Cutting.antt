@@ -11,7 +11,7 @@ use mathlib.Core.List.{List}
 use lib.ListN.{length, drop}
 use Rattle.machine.specs.Machine.{On, on}
 use Rattle.machine.specs.Run.{Ran}
-use Rattle.machine.specs.Session.{Session, over, piece, Finished}
+use Rattle.machine.specs.Stream.{Session, over, piece, Finished}
 use Rattle.machine.proofs.Cutting.{cutting as machine-cutting, step-finished}
 use Rattle.server.specs.Session.{State, turn}
 use Rattle.server.specs.View.{view, code}

@@ -16,15 +16,16 @@ use lib.Seq.{length-take-le, take-all, take-take, take-nil}
 use Rattle.machine.specs.Choice.{pick}
 use Rattle.machine.specs.Machine.{on}
 use Rattle.machine.specs.Pieces.{Absorbs}
-use Rattle.machine.specs.Bulk.{Gathers, Quiet}
+use Rattle.machine.proofs.Families.{Gathers, Quiet}
 use Rattle.machine.proofs.Leaves.{gather-leaf}
 use Rattle.wire.specs.Fields.{field, number, sameBytes}
 use Rattle.wire.specs.Constants.{IHAVEOPT, NBD-REQUEST-MAGIC}
 use Rattle.wire.specs.declared.table.Export.{Export}
 use Rattle.server.specs.Request.{requestOf, owed}
 use Rattle.server.specs.Session.{State, ClientFlags, OptionHead, Shaking, Header, Serving, Over}
-use Rattle.server.specs.Session.{flagged, payload, opted, optionUntil, begun, requested, requestUntil, turn}
-use Rattle.machine.specs.Parts.{Gathered}
+use Rattle.server.specs.Session.{judgeFlags, payload, judgeOption, begun, requested, turn}
+use Rattle.server.specs.Inner.{optionUntil, requestUntil}
+use Rattle.machine.specs.Inner.{Gathered}
 
 drop-take : (i j : ℕ) (h : List ℕ) → drop i (take (i + j) h) ≡ take j (drop i h)
 drop-take zero j h = rw (zero-add j)
@@ -91,59 +92,59 @@ request-leaf t e {m = m} {have = have} long below some g q =
 
 -- ---- the client's flags
 module _ (h : List ℕ) (k : ℕ) (long : length h ≡ 28) where
-  pub flags-part : k < 4 → Shaking (ClientFlags (take k h)) ≡ flagged (take k h)
-  unfolding flagged
+  pub flags-part : k < 4 → Shaking (ClientFlags (take k h)) ≡ judgeFlags (take k h)
+  unfolding judgeFlags
   flags-part q = rw (length-take-le k h (omega arith), lt-ltb k 4 q)
 
   flags-four : k ≤ 4 → 4 ≤ k → (length (take k h) ≡ 4) × (number (take k h) ≡ field h 0 4)
   flags-four p q = let e : k ≡ 4 = omega arith in rw e (length-take-le 4 h (omega arith), refl)
 
-  pub flags-zeroes : k ≤ 4 → 4 ≤ k → field h 0 4 ≡ 1 → Shaking (OptionHead true []) ≡ flagged (take k h)
-  unfolding flagged
+  pub flags-zeroes : k ≤ 4 → 4 ≤ k → field h 0 4 ≡ 1 → Shaking (OptionHead true []) ≡ judgeFlags (take k h)
+  unfolding judgeFlags
   flags-zeroes p q e = let f = flags-four p q in rw (f .0, f .1, e)
 
-  pub flags-no-zeroes : k ≤ 4 → 4 ≤ k → field h 0 4 ≡ 3 → Shaking (OptionHead false []) ≡ flagged (take k h)
-  unfolding flagged
+  pub flags-no-zeroes : k ≤ 4 → 4 ≤ k → field h 0 4 ≡ 3 → Shaking (OptionHead false []) ≡ judgeFlags (take k h)
+  unfolding judgeFlags
   flags-no-zeroes p q e = let f = flags-four p q in rw (f .0, f .1, e)
 
-  pub flags-other : k ≤ 4 → 4 ≤ k → (field h 0 4 ≡ 1 → ⊥) → (field h 0 4 ≡ 3 → ⊥) → Over 1 ≡ flagged (take k h)
-  unfolding flagged
+  pub flags-other : k ≤ 4 → 4 ≤ k → (field h 0 4 ≡ 1 → ⊥) → (field h 0 4 ≡ 3 → ⊥) → Over 1 ≡ judgeFlags (take k h)
+  unfolding judgeFlags
   flags-other p q a b = let f = flags-four p q in rw (f .0, f .1, ne-eqb (field h 0 4) 1 a, ne-eqb (field h 0 4) 3 b)
 
-pub each-flags : (t m : List ℕ) → Gathers (turn t) (λ got. Shaking (ClientFlags got)) flagged m
+pub each-flags : (t m : List ℕ) → Gathers (turn t) (λ got. Shaking (ClientFlags got)) judgeFlags m
 each-flags t m got = refl
 
-pub quiet-flags : (t : List ℕ) (k : ℕ) → Quiet (turn t) (λ got. Shaking (ClientFlags got)) flagged k 4
-unfolding flagged
+pub quiet-flags : (t : List ℕ) (k : ℕ) → Quiet (turn t) (λ got. Shaking (ClientFlags got)) judgeFlags k 4
+unfolding judgeFlags
 quiet-flags t k h lo hi = rw (lt-ltb (length h) 4 hi)
 
 pub flags-leaf : (t : List ℕ) {head head′ input m : List ℕ} {have taken : ℕ} {x : State}
     → length head ≡ 28 → have < 4 → 0 < length input → Gathered head have 4 input head′ taken
-    → x ≡ flagged (take (have + taken) head′) → Absorbs (turn t) (on (Shaking (ClientFlags (take have head))) m) input taken (on x m)
+    → x ≡ judgeFlags (take (have + taken) head′) → Absorbs (turn t) (on (Shaking (ClientFlags (take have head))) m) input taken (on x m)
 flags-leaf t {m = m} {have = have} long below some g q =
-    gathered-leaf t (λ got. Shaking (ClientFlags got)) flagged (each-flags t m) (quiet-flags t have) long below (omega arith) some g q
+    gathered-leaf t (λ got. Shaking (ClientFlags got)) judgeFlags (each-flags t m) (quiet-flags t have) long below (omega arith) some g q
 
 -- ---- an option
 module _ (z : Bool) (t h : List ℕ) (k : ℕ) (long : length h ≡ 28) where
-  pub option-magic : k ≡ 8 → sameBytes (take 8 (drop 0 h)) IHAVEOPT ≡ true → Shaking (OptionHead z (take 8 h)) ≡ opted z t (take k h)
-  unfolding opted
+  pub option-magic : k ≡ 8 → sameBytes (take 8 (drop 0 h)) IHAVEOPT ≡ true → Shaking (OptionHead z (take 8 h)) ≡ judgeOption z t (take k h)
+  unfolding judgeOption
   option-magic p q = rw (p, length-take-le 8 h (omega arith), q)
 
-  pub option-other : k ≡ 8 → sameBytes (take 8 (drop 0 h)) IHAVEOPT ≡ false → Over 2 ≡ opted z t (take k h)
-  unfolding opted
+  pub option-other : k ≡ 8 → sameBytes (take 8 (drop 0 h)) IHAVEOPT ≡ false → Over 2 ≡ judgeOption z t (take k h)
+  unfolding judgeOption
   option-other p q = rw (p, length-take-le 8 h (omega arith), q)
 
-  pub option-part : (k ≡ 8 → ⊥) → k < 16 → Shaking (OptionHead z (take k h)) ≡ opted z t (take k h)
-  unfolding opted
+  pub option-part : (k ≡ 8 → ⊥) → k < 16 → Shaking (OptionHead z (take k h)) ≡ judgeOption z t (take k h)
+  unfolding judgeOption
   option-part p q = rw (length-take-le k h (omega arith), ne-eqb k 8 p, lt-ltb k 16 q)
 
-  pub option-whole : k ≤ 16 → 16 ≤ k → payload z t (field h 8 4) (field h 12 4) ≡ opted z t (take k h)
-  unfolding opted
+  pub option-whole : k ≤ 16 → 16 ≤ k → payload z t (field h 8 4) (field h 12 4) ≡ judgeOption z t (take k h)
+  unfolding judgeOption
   option-whole p q =
       let e : k ≡ 16 = omega arith in
       rw (e, length-take-le 16 h (omega arith), field-take h 16 8 4 (omega arith), field-take h 16 12 4 (omega arith))
 
-pub each-option : (z : Bool) (t m : List ℕ) → Gathers (turn t) (λ got. Shaking (OptionHead z got)) (opted z t) m
+pub each-option : (z : Bool) (t m : List ℕ) → Gathers (turn t) (λ got. Shaking (OptionHead z got)) (judgeOption z t) m
 each-option z t m got = refl
 
 pub until-option : (k : ℕ) → k < 16 → (k < optionUntil k) × (optionUntil k ≤ 16)
@@ -153,17 +154,17 @@ until-option k h = go (ltb k 8) refl
     go true e = (ltb-true k 8 e, omega arith)
     go false e = (h, omega arith)
 
-pub quiet-option : (z : Bool) (t : List ℕ) (k : ℕ) → Quiet (turn t) (λ got. Shaking (OptionHead z got)) (opted z t) k (optionUntil k)
-unfolding opted
+pub quiet-option : (z : Bool) (t : List ℕ) (k : ℕ) → Quiet (turn t) (λ got. Shaking (OptionHead z got)) (judgeOption z t) k (optionUntil k)
+unfolding judgeOption
 quiet-option z t k = go (ltb k 8) refl
   where
-    go : (b : Bool) → ltb k 8 ≡ b → Quiet (turn t) (λ got. Shaking (OptionHead z got)) (opted z t) k (pick b 8 16)
+    go : (b : Bool) → ltb k 8 ≡ b → Quiet (turn t) (λ got. Shaking (OptionHead z got)) (judgeOption z t) k (pick b 8 16)
     go true p h lo hi = rw (ne-eqb (length h) 8 (omega arith), lt-ltb (length h) 16 (omega arith))
     go false p h lo hi = rw (ne-eqb (length h) 8 (omega (arith, ltb-false k 8 p)), lt-ltb (length h) 16 hi)
 
 pub option-leaf : (z : Bool) (t : List ℕ) {head head′ input m : List ℕ} {have taken : ℕ} {x : State}
     → length head ≡ 28 → have < 16 → 0 < length input → Gathered head have (optionUntil have) input head′ taken
-    → x ≡ opted z t (take (have + taken) head′) → Absorbs (turn t) (on (Shaking (OptionHead z (take have head))) m) input taken (on x m)
+    → x ≡ judgeOption z t (take (have + taken) head′) → Absorbs (turn t) (on (Shaking (OptionHead z (take have head))) m) input taken (on x m)
 option-leaf z t {m = m} {have = have} long below some g q =
     let u = until-option have below in
-    gathered-leaf t (λ got. Shaking (OptionHead z got)) (opted z t) (each-option z t m) (quiet-option z t have) long (u .0) (omega (arith, u .1)) some g q
+    gathered-leaf t (λ got. Shaking (OptionHead z got)) (judgeOption z t) (each-option z t m) (quiet-option z t have) long (u .0) (omega (arith, u .1)) some g q

@@ -12,7 +12,7 @@ use lib.Dec.{eqb, leb, ltb}
 use lib.ListN.{length, length-set}
 use Rattle.machine.specs.Choice.{pick, both, between}
 use Rattle.machine.specs.Machine.{On, on, Keeps, Moves}
-use Rattle.machine.specs.Bulk.{less}
+use Rattle.machine.specs.Parts.{less}
 use Rattle.machine.proofs.Moves.{kept}
 use Rattle.wire.specs.Fields.{number, field, sameBytes}
 use Rattle.wire.specs.Constants.{IHAVEOPT, NBD-REQUEST-MAGIC}
@@ -26,9 +26,10 @@ use Rattle.wire.proofs.Found.{length-started, length-narrowed}
 use Rattle.server.specs.Request.{requestOf, past, owedRead, owedWrite, owed}
 use Rattle.server.specs.Session.{Handshake, Greeting, ClientFlags, OptionHead, Naming, Passing, Listing, Declining, Aborting, Exporting}
 use Rattle.server.specs.Session.{Transmission, Header, Storing, Dropping, Replying, Sending, State, Shaking, Serving, Over}
-use Rattle.server.specs.Session.{greeted, listing, declining, aborting, exporting, flagged, answered, passing, replyLength, found, named, naming, payload, opted}
+use Rattle.server.specs.Session.{greeted, listing, declining, aborting, exporting, judgeFlags, answered, passing, replyLength, found, named, naming, payload, judgeOption}
 use Rattle.server.specs.Session.{sending, replying, storing, dropping, begun, requested, turn}
-use Rattle.server.specs.Ranges.{ranged, unsupported, part, rangedServing, replied, behind, lent, outside, Good}
+use Rattle.server.specs.Ranges.{ranged, unsupported, part, rangedServing, replied, behind, loanFault, windowFault}
+use Rattle.server.specs.Inner.{Good}
 use Rattle.server.specs.declared.request.Request.{Request}
 use Rattle.server.specs.declared.request.Answer.{Answer}
 use Rattle.server.proofs.Bounds.{between-true, some-within, passing-bounds, declining-bounds, exporting-bounds, storing-bounds, replying-bounds, good-serving}
@@ -58,7 +59,7 @@ module _ (t : List ℕ) (n : ℕ) where
 
   -- ---- the handshake: the table is sound
   module _ (sound : fault n t ≡ 0) where
-    shaking : {p : Handshake} → ranged (Shaking p) ≡ true → lent t n (Shaking p) ≡ 0 → G (Shaking p)
+    shaking : {p : Handshake} → ranged (Shaking p) ≡ true → loanFault t n (Shaking p) ≡ 0 → G (Shaking p)
     shaking a b = record { within = a; fits = b }
 
     greeted-good : (left : ℕ) → left ≤ 18 → G (greeted left)
@@ -80,12 +81,12 @@ module _ (t : List ℕ) (n : ℕ) where
     aborting-good zero h = over 7 (omega arith)
     aborting-good (suc left) h = shaking (is-between 1 20 (suc left) (omega arith) h) (rw sound)
 
-    exporting-good : (z : Bool) (e : Export) (left : ℕ) → ltb (e .flags) 16 ≡ true → outside n e ≡ 0 → left ≤ replyLength z → G (exporting z e left)
+    exporting-good : (z : Bool) (e : Export) (left : ℕ) → ltb (e .flags) 16 ≡ true → windowFault n e ≡ 0 → left ≤ replyLength z → G (exporting z e left)
     exporting-good z e zero k o h = record { within = both-true k refl; fits = o }
     exporting-good z e (suc left) k o h = shaking (both-true k (is-between 1 (replyLength z) (suc left) (omega arith) h)) (rw (sound, o))
 
-    flagged-good : (h : List ℕ) → G (flagged h)
-    unfolding flagged
+    flagged-good : (h : List ℕ) → G (judgeFlags h)
+    unfolding judgeFlags
     flagged-good h =
         picked G (ltb (length h) 4) (λ e. shaking e (rw sound))
         λ _. picked G (eqb (number h) 1) (λ _. option-good true) λ _. picked G (eqb (number h) 3) (λ _. option-good false) λ _. over 1 (omega arith)
@@ -136,15 +137,15 @@ module _ (t : List ℕ) (n : ℕ) where
         (λ h. picked G (eqb option 1) (λ _. naming-good z _ _ 0 len (length-started (records t) len) (omega (arith, leb-true len 100000 h))) λ e. passing-good z option len len e (omega arith) (leb-true len 100000 h))
         λ _. over 3 (omega arith)
 
-    opted-good : (z : Bool) (h : List ℕ) → G (opted z t h)
-    unfolding opted
+    opted-good : (z : Bool) (h : List ℕ) → G (judgeOption z t h)
+    unfolding judgeOption
     opted-good z h =
         picked G (eqb (length h) 8)
         (λ e. picked G (sameBytes h IHAVEOPT) (λ _. shaking (rw (eqb-true (length h) 8 e)) (rw sound)) λ _. over 2 (omega arith))
         λ _. picked G (ltb (length h) 16) (λ e. shaking e (rw sound)) λ _. payload-good z (field h 8 4) (field h 12 4)
 
   -- ---- the transmission
-  module _ (e : Export) (known : ltb (e .flags) 16 ≡ true) (in-image : outside n e ≡ 0) where
+  module _ (e : Export) (known : ltb (e .flags) 16 ≡ true) (in-image : windowFault n e ≡ 0) where
     serving : {p : Transmission} → rangedServing e p ≡ true → G (Serving e p)
     serving a = record { within = both-true known a; fits = in-image }
 
@@ -254,7 +255,7 @@ module _ (t : List ℕ) (n : ℕ) where
   kept-good (on (Shaking (Exporting z e left)) m) h =
       let k = both-left (ltb (e .flags) 16) (between 1 (replyLength z) left) (h .1 .within) in
       let b = exporting-bounds (e .flags) (replyLength z) left (h .1 .within) in
-      (h .0, exporting-good t n (table-sound (h .1)) z e (less left) k (first-none (fault n t) (outside n e) (h .1 .fits) .1) (less-le left (replyLength z) (b .1)))
+      (h .0, exporting-good t n (table-sound (h .1)) z e (less left) k (first-none (fault n t) (windowFault n e) (h .1 .fits) .1) (less-le left (replyLength z) (b .1)))
   kept-good (on (Serving e (Header got)) m) h = λ b. (h .0, requested-good t n e (known-flags (h .1)) (h .1 .fits) (got ++ b ∷ []))
   kept-good (on (Serving e (Storing handle off left)) m) h =
       let g = good-serving (h .1) .0 in

@@ -1,7 +1,6 @@
 pub mod Left
 pub mod Session
 pub mod Header
-pub mod Past
 pub mod Tests
 pub mod Window
 pub mod Names
@@ -17,5 +16,5 @@ pub mod Whole
 pub mod Writes
 pub mod Requests
 pub mod Untouched
-pub mod Options
+pub mod Negotiation
 pub mod Exact

@@ -11,7 +11,7 @@ use native.Mathlib.Omega.{arith}
 use lib.ListN.{length, take}
 use Rattle.machine.specs.Machine.{on}
 use Rattle.machine.specs.Pieces.{Absorbs}
-use Rattle.machine.specs.Bulk.{Folds}
+use Rattle.machine.proofs.Families.{Folds}
 use Rattle.machine.proofs.Leaves.{fold-leaf}
 use Rattle.wire.specs.Utf8.{next, run}
 use Rattle.wire.specs.Table.{records}

@@ -8,10 +8,10 @@ use Rattle.machine.specs.Choice.{pick}
 use Rattle.server.specs.Session.{State, Shaking, Serving, Over}
 use Rattle.server.specs.View.{view}
 use Rattle.server.specs.Ranges.{inRange}
-use Rattle.server.specs.Contract.{numberOf, outcomeOf, numberAt, owesOutput, cutOff, closedAt, endOfInput, endNumberAt, endNumber, Closes}
+use Rattle.server.specs.Contract.{numberOf, outcomeOf, numberAt, owesOutput, cutOff, endedAt, endOfInput, endNumberAt, endNumber, Closes}
 use Rattle.server.specs.declared.state.Server.{Server}
-use Rattle.server.specs.declared.Closed.{Closed}
-use Rattle.server.specs.declared.Outcome.the-variants.{Refused}
+use Rattle.server.specs.declared.InputEnded.{InputEnded}
+use Rattle.server.specs.declared.state.Outcome.the-variants.{Refused}
 
 pub numbered : (x : State) → numberOf (outcomeOf x) ≡ numberAt x
 numbered (Shaking p) = refl
@@ -22,7 +22,7 @@ cut-number : (s : Server) (owed : Bool) → numberOf (cutOff s owed .outcome) �
 cut-number s true = refl
 cut-number s false = refl
 
-closed-number : (s : Server) (x : State) → numberOf (closedAt s x .outcome) ≡ some (endNumberAt x)
+closed-number : (s : Server) (x : State) → numberOf (endedAt s x .outcome) ≡ some (endNumberAt x)
 closed-number s (Shaking p) = cut-number s (owesOutput (Shaking p))
 closed-number s (Serving e p) = cut-number s (owesOutput (Serving e p))
 closed-number s (Over n) = refl
@@ -30,9 +30,9 @@ closed-number s (Over n) = refl
 ended-number : (s : Server) → numberOf (endOfInput s .outcome) ≡ some (endNumber s)
 ended-number s = go (inRange s)
   where
-    go : (b : Bool) → numberOf (pick b (closedAt s (view s)) (record { state = s; outcome = Refused 27 }) .outcome) ≡ some (pick b (endNumberAt (view s)) 27)
+    go : (b : Bool) → numberOf (pick b (endedAt s (view s)) (record { state = s; outcome = Refused 27 }) .outcome) ≡ some (pick b (endNumberAt (view s)) 27)
     go true = closed-number s (view s)
     go false = refl
 
-pub closing : {s : Server} {r : Closed} → r ≡ endOfInput s → Closes s r
-closing {s} e = record { result = e; number = ap (λ (c : Closed). numberOf (c .outcome)) e ∙ ended-number s }
+pub closing : {s : Server} {r : InputEnded} → r ≡ endOfInput s → Closes s r
+closing {s} e = record { result = e; number = ap (λ (c : InputEnded). numberOf (c .outcome)) e ∙ ended-number s }

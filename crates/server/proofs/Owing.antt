@@ -10,7 +10,7 @@ use mathlib.Core.List.{List, []}
 use native.Mathlib.Omega.{arith}
 use lib.ListN.{length, take, length-take}
 use Rattle.machine.specs.Machine.{on, owes}
-use Rattle.machine.specs.Parts.{Given}
+use Rattle.machine.specs.Inner.{Given}
 use Rattle.machine.specs.Pieces.{Emits}
 use Rattle.machine.proofs.Leaves.{emits-idle}
 use Rattle.wire.specs.Constants.{NBD-OPT-ABORT, NBD-REP-ACK, NBD-REP-ERR-UNSUP}
@@ -18,7 +18,7 @@ use Rattle.wire.specs.Layouts.{greeting, optionReply, optionReplyHead}
 use Rattle.wire.specs.declared.table.Export.{Export}
 use Rattle.server.specs.Session.{Handshake, Greeting, ClientFlags, OptionHead, Naming, Passing, Listing, Declining, Aborting, Exporting}
 use Rattle.server.specs.Session.{State, Shaking, listReplies, declined, aborted, exported, greeted, listing, declining, aborting, exporting, replyLength, turn}
-use Rattle.server.specs.Owed.{replyOf, leftOf, withLeft, Owes}
+use Rattle.server.specs.Inner.{replyOf, leftOf, withLeft, Owes}
 use Rattle.server.specs.Ranges.{rangedShaking}
 use Rattle.server.proofs.Bounds.{between-true, declining-bounds, exporting-bounds}
 use Rattle.server.proofs.Left.{greeted-more, listing-more, declining-more, aborting-more, exporting-more}

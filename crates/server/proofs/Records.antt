@@ -9,34 +9,34 @@ use lib.Dec.{eqb, ltb, leb, leb·zero}
 use lib.ListN.{getD}
 use Rattle.machine.specs.Choice.{pick}
 use Rattle.wire.specs.Utf8.{valid}
-use Rattle.wire.specs.Table.{Record, blank, Front, nothing, broken, entry, front, listed, recordsIn, records, recordFault, first, judged, faults, fault}
+use Rattle.wire.specs.Table.{Record, noRecord, Front, nothing, broken, entry, front, listed, recordsIn, records, recordFault, firstFault, judged, faults, fault}
 
-pub first-none : (a b : ℕ) → first a b ≡ 0 → (a ≡ 0) × (b ≡ 0)
+pub first-none : (a b : ℕ) → firstFault a b ≡ 0 → (a ≡ 0) × (b ≡ 0)
 first-none zero b e = (refl, e)
 first-none (suc a) b e = absurd (omega arith)
 
-blank-accepted : (n : ℕ) → recordFault n blank ≡ 0
+blank-accepted : (n : ℕ) → recordFault n noRecord ≡ 0
 blank-accepted n = rw (leb·zero n)
 
-accepted-in : (n k : ℕ) (l : List ℕ) → faults n k l ≡ 0 → (i : ℕ) → recordFault n (getD (recordsIn k l) i blank) ≡ 0
+accepted-in : (n k : ℕ) (l : List ℕ) → faults n k l ≡ 0 → (i : ℕ) → recordFault n (getD (recordsIn k l) i noRecord) ≡ 0
 unfolding faults recordsIn
 accepted-in n zero l e i = blank-accepted n
 accepted-in n (suc k) l e i = go (front l) i e (λ rest. accepted-in n k rest)
   where
     go : (f : Front) (i : ℕ) → judged n f (faults n k) ≡ 0
-        → ((rest : List ℕ) → faults n k rest ≡ 0 → (i : ℕ) → recordFault n (getD (recordsIn k rest) i blank) ≡ 0)
-        → recordFault n (getD (listed f (recordsIn k)) i blank) ≡ 0
+        → ((rest : List ℕ) → faults n k rest ≡ 0 → (i : ℕ) → recordFault n (getD (recordsIn k rest) i noRecord) ≡ 0)
+        → recordFault n (getD (listed f (recordsIn k)) i noRecord) ≡ 0
     go nothing i e more = blank-accepted n
     go broken i e more = absurd (omega arith)
     go (entry r rest) zero e more = first-none (recordFault n r) (faults n k rest) e .0
     go (entry r rest) (suc i) e more = more rest (first-none (recordFault n r) (faults n k rest) e .1) i
 
-accepted : (n : ℕ) (t : List ℕ) → fault n t ≡ 0 → (i : ℕ) → recordFault n (getD (records t) i blank) ≡ 0
+accepted : (n : ℕ) (t : List ℕ) → fault n t ≡ 0 → (i : ℕ) → recordFault n (getD (records t) i noRecord) ≡ 0
 unfolding fault records
 accepted n [] e i = absurd (omega arith)
 accepted n (v ∷ l) e i = go (eqb v 1) e
   where
-    go : (b : Bool) → pick b (faults n 32 l) 20 ≡ 0 → recordFault n (getD (recordsIn 32 l) i blank) ≡ 0
+    go : (b : Bool) → pick b (faults n 32 l) 20 ≡ 0 → recordFault n (getD (recordsIn 32 l) i noRecord) ≡ 0
     go true e = accepted-in n 32 l e i
     go false e = absurd (omega arith)
 
@@ -50,5 +50,5 @@ no-fault n r e = go (ltb (r .flags) 16) (valid (r .name)) (leb (r .start + r .si
     go false b c e = absurd (omega arith)
 
 pub accepted-at : (n : ℕ) (t : List ℕ) → fault n t ≡ 0 → (i : ℕ)
-    → (ltb (getD (records t) i blank .flags) 16 ≡ true) × (leb (getD (records t) i blank .start + getD (records t) i blank .size) n ≡ true)
-accepted-at n t e i = no-fault n (getD (records t) i blank) (accepted n t e i)
+    → (ltb (getD (records t) i noRecord .flags) 16 ≡ true) × (leb (getD (records t) i noRecord .start + getD (records t) i noRecord .size) n ≡ true)
+accepted-at n t e i = no-fault n (getD (records t) i noRecord) (accepted n t e i)

@@ -23,7 +23,7 @@ use Rattle.machine.specs.Choice.{pick}
 use Rattle.machine.specs.Machine.{on}
 use Rattle.machine.proofs.Moves.{resting}
 use Rattle.machine.proofs.Runs.{same-step, taken-length, given-length}
-use Rattle.wire.specs.Table.{first, fault}
+use Rattle.wire.specs.Table.{firstFault, fault}
 use Rattle.wire.specs.declared.table.Export.{Export}
 use Rattle.wire.proofs.Tests.{both-left, both-right}
 use Rattle.wire.proofs.Soundness.{fault-range}
@@ -31,13 +31,15 @@ use Rattle.machine.specs.Parts.{blank}
 use Rattle.server.specs.Session.{Handshake, Greeting, ClientFlags, OptionHead, Naming, Passing, Listing, Declining, Aborting, Exporting}
 use Rattle.server.specs.Session.{State, Shaking, Serving, Over}
 use Rattle.server.specs.View.{view, code}
-use Rattle.server.specs.Ranges.{tidy, used, ranged, inRange, outside, outsideShaking, lent, refusal, Good}
-use Rattle.server.specs.Contract.{outcomeOf, Serves, owesOutput, cutOff, closedAt, endOfInput, Closes, headerOf, Heads}
+use Rattle.server.specs.View.{used}
+use Rattle.server.specs.Ranges.{tidy, ranged, inRange, windowFault, windowFaultShaking, loanFault, refusal}
+use Rattle.server.specs.Inner.{Good}
+use Rattle.server.specs.Contract.{outcomeOf, Serves, owesOutput, cutOff, endedAt, endOfInput, Closes, headerOf, Heads}
 use Rattle.server.specs.History.{Reached, fresh, stepped, closed}
 use Rattle.server.specs.declared.state.Server.{Server}
 use Rattle.server.specs.declared.Stepped.{Stepped}
-use Rattle.server.specs.declared.Closed.{Closed}
-use Rattle.server.specs.declared.Outcome.the-variants.{Ended, Refused}
+use Rattle.server.specs.declared.InputEnded.{InputEnded}
+use Rattle.server.specs.declared.state.Outcome.the-variants.{Ended, Refused}
 use Rattle.server.specs.declared.oldstyle.HeaderAnswer.{HeaderAnswer}
 use Rattle.server.specs.declared.oldstyle.HeaderAnswer.the-variants.{Written, NoRoom}
 use Rattle.server.proofs.Bounds.{accepted}
@@ -69,7 +71,7 @@ same-result {self} {t} {m} {r = r} {r′ = r′} {m′ = m′} {m″ = m″} {ro
         let o : r .outcome ≡ r′ .outcome = a .outcome ∙ ap outcomeOf v ∙ sym (b .outcome) in
         (stepped-same c (s .same-taken) (s .same-given) o, cc (s .same-place), s .same-room)
 
-pub same-closed : {self : Server} {r r′ : Closed} → Closes self r → Closes self r′ → r ≡ r′
+pub same-closed : {self : Server} {r r′ : InputEnded} → Closes self r → Closes self r′ → r ≡ r′
 same-closed p q = p .result ∙ sym (q .result)
 
 pub same-header : {room : List ℕ} {size flags : ℕ} {r r′ : HeaderAnswer} {room′ room″ : List ℕ}
@@ -125,7 +127,7 @@ end-in-range s h = rw h (at-end (view s))
     cut true = h
     cut false = refl
 
-    at-end : (x : State) → inRange (closedAt s x .state) ≡ true
+    at-end : (x : State) → inRange (endedAt s x .state) ≡ true
     at-end (Shaking p) = cut (owesOutput (Shaking p))
     at-end (Serving e p) = cut (owesOutput (Serving e p))
     at-end (Over n) = h
@@ -136,14 +138,14 @@ in-range-for-ever (stepped p q) = step-in-range q (in-range-for-ever p)
 in-range-for-ever (closed {s = s} p) = end-in-range s (in-range-for-ever p)
 
 -- ---- 27
-window-not-27 : (n : ℕ) (x : Export) → outside n x ≡ 27 → ⊥
+window-not-27 : (n : ℕ) (x : Export) → windowFault n x ≡ 27 → ⊥
 window-not-27 n x e = go (leb (x .start + x .size) n) e
   where
     go : (b : Bool) → pick {A = ℕ} b 0 26 ≡ 27 → ⊥
     go true e = omega arith
     go false e = omega arith
 
-chosen-not-27 : (n : ℕ) (p : Handshake) → outsideShaking n p ≡ 27 → ⊥
+chosen-not-27 : (n : ℕ) (p : Handshake) → windowFaultShaking n p ≡ 27 → ⊥
 chosen-not-27 n (Greeting left) e = omega arith
 chosen-not-27 n (ClientFlags got) e = omega arith
 chosen-not-27 n (OptionHead z got) e = omega arith
@@ -154,20 +156,20 @@ chosen-not-27 n (Declining z option left) e = omega arith
 chosen-not-27 n (Aborting left) e = omega arith
 chosen-not-27 n (Exporting z x left) e = window-not-27 n x e
 
-table-not-27 : (f later : ℕ) → (f ≡ 0) ⊎ ((20 ≤ f) × (f ≤ 25)) → (later ≡ 27 → ⊥) → first f later ≡ 27 → ⊥
+table-not-27 : (f later : ℕ) → (f ≡ 0) ⊎ ((20 ≤ f) × (f ≤ 25)) → (later ≡ 27 → ⊥) → firstFault f later ≡ 27 → ⊥
 table-not-27 zero later r h e = h e
 table-not-27 (suc f) later (inl z) h e = omega arith
 table-not-27 (suc f) later (inr b) h e = omega (arith, b .1)
 
-lent-not-27 : (t : List ℕ) (n : ℕ) (x : State) → lent t n x ≡ 27 → ⊥
-lent-not-27 t n (Shaking p) e = table-not-27 (fault n t) (outsideShaking n p) (fault-range n t) (chosen-not-27 n p) e
+lent-not-27 : (t : List ℕ) (n : ℕ) (x : State) → loanFault t n x ≡ 27 → ⊥
+lent-not-27 t n (Shaking p) e = table-not-27 (fault n t) (windowFaultShaking n p) (fault-range n t) (chosen-not-27 n p) e
 lent-not-27 t n (Serving x p) e = window-not-27 n x e
 lent-not-27 t n (Over k) e = omega arith
 
 pub refused-27 : (t : List ℕ) (n : ℕ) (s : Server) → (refusal t n s ≡ 27) ↔ (inRange s ≡ false)
 refused-27 t n s = (λ e. go (inRange s) refl e, λ h. rw h)
   where
-    go : (b : Bool) → inRange s ≡ b → pick b (lent t n (view s)) 27 ≡ 27 → inRange s ≡ false
+    go : (b : Bool) → inRange s ≡ b → pick b (loanFault t n (view s)) 27 ≡ 27 → inRange s ≡ false
     go true h e = absurd (lent-not-27 t n (view s) e)
     go false h e = h
 
@@ -203,14 +205,14 @@ reached-one-struct (stepped {s = s} {t = t} {m = m} {r = r} p q) = go (refusal t
     go zero e h = q .accepts e .one-struct
 reached-one-struct (closed {s = s} p) = go (inRange s) (view s) (reached-one-struct p)
   where
-    Same : Closed → Type 0
+    Same : InputEnded → Type 0
     Same r = r .state ≡ code (view (r .state))
 
     cut : (b : Bool) → s ≡ code (view s) → Same (cutOff s b)
     cut true h = h
     cut false h = refl
 
-    go : (b : Bool) (x : State) → s ≡ code (view s) → Same (pick b (closedAt s x) (record { state = s; outcome = Refused 27 }))
+    go : (b : Bool) (x : State) → s ≡ code (view s) → Same (pick b (endedAt s x) (record { state = s; outcome = Refused 27 }))
     go true (Shaking p) h = cut (owesOutput (Shaking p)) h
     go true (Serving e p) h = cut (owesOutput (Serving e p)) h
     go true (Over n) h = h

@@ -11,13 +11,14 @@ use lib.ListN.{length, getD, take, drop}
 use lib.Seq.{paste, take-all}
 use Rattle.machine.specs.Machine.{on, gives}
 use Rattle.machine.specs.Pieces.{Emits}
-use Rattle.machine.specs.Bulk.{Sends, Drops}
+use Rattle.machine.proofs.Families.{Sends, Drops}
 use Rattle.machine.proofs.Leaves.{send-leaf}
 use Rattle.wire.specs.Fields.{be}
 use Rattle.wire.specs.Layouts.{greeting, optionReply, optionReplyHead, exportReply, oldstyleHeader, simpleReply}
 use Rattle.wire.specs.declared.table.Export.{Export}
 use Rattle.server.specs.Session.{State, sending, dropping, passing, listReplies, exported, replyLength, window, turn}
-use Rattle.machine.specs.Parts.{Given, owing}
+use Rattle.machine.specs.Parts.{owing}
+use Rattle.machine.specs.Inner.{Given}
 
 -- a reply l, of which `left` bytes are owed in the state f left; the code has it in an array
 module _ (t : List ℕ) (f : ℕ → State) (l m : List ℕ) (each : (left : ℕ) → turn t (on (f (suc left)) m) ≡ gives (owing l (suc left)) (on (f left) m)) where

@@ -1,5 +1,4 @@
 -- Tests of the ranges, as the code makes them.
---   fits-sub     a sum within a bound, by a difference
 --   head-short   how many bytes of the array are there
 use Prim.Native.Nat.{ℕ, min, _+_, _-_, _≤_}
 use mathlib.Core.Path.{_≡_, refl, sym, _∙_}
@@ -9,13 +8,6 @@ use native.Mathlib.Omega.{arith}
 use borrow.Author.Tests.{lt-ltb, le-ltb, ltb-true, ltb-false, le-leb, lt-leb, leb-true, leb-false}
 use lib.Dec.{ltb, leb}
 use lib.ListN.{length, take, length-take}
-
-pub fits-sub : (off left n : ℕ) → left ≤ n → leb off (n - left) ≡ leb (off + left) n
-fits-sub off left n h = go (leb off (n - left)) refl
-  where
-    go : (b : Bool) → leb off (n - left) ≡ b → leb off (n - left) ≡ leb (off + left) n
-    go true e = e ∙ sym (le-leb (off + left) n (omega (arith, leb-true off (n - left) e)))
-    go false e = e ∙ sym (lt-leb (off + left) n (omega (arith, leb-false off (n - left) e)))
 
 pub head-short : (h : List ℕ) (have k : ℕ) → length h ≡ 28 → k ≤ 28 → ltb have k ≡ ltb (length (take have h)) k
 head-short h have k long fits = go (ltb have k) refl

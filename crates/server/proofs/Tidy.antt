@@ -20,7 +20,8 @@ use Rattle.machine.specs.Parts.{blank}
 use Rattle.server.specs.Session.{Handshake, Greeting, ClientFlags, OptionHead, Naming, Passing, Listing, Declining, Aborting, Exporting}
 use Rattle.server.specs.Session.{Transmission, Header, Storing, Dropping, Replying, Sending, State, Shaking, Serving, Over}
 use Rattle.server.specs.View.{handshakeOf, transmissionOf, viewOf, view, code}
-use Rattle.server.specs.Ranges.{rangedShaking, rangedServing, ranged, usedShaking, usedServing, used, inRange}
+use Rattle.server.specs.View.{usedShaking, usedServing, used}
+use Rattle.server.specs.Ranges.{rangedShaking, rangedServing, ranged, inRange}
 use Rattle.server.specs.declared.state.Handshake as hs
 use Rattle.server.specs.declared.state.Transmission as tr
 use Rattle.server.specs.declared.state.Phase as ph

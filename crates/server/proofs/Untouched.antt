@@ -13,22 +13,23 @@ use lib.Dec.{eqb, ltb, leb}
 use lib.ListN.{length, getD, take, drop, set, length-set, List·getD-eq-default}
 use lib.Seq.{take-set-le, drop-set-lt}
 use Rattle.machine.specs.Machine.{On, on, gives, takes, Moves, still, by-give, by-take, Kept, Keeps}
-use Rattle.machine.specs.Bulk.{less}
+use Rattle.machine.specs.Parts.{less}
 use Rattle.machine.proofs.Moves.{kept, resting}
 use Rattle.wire.specs.Fields.{number, field, sameBytes}
 use Rattle.wire.specs.Constants.{IHAVEOPT, NBD-REQUEST-MAGIC}
 use Rattle.wire.specs.Utf8.{whole}
-use Rattle.wire.specs.Table.{records, blank}
+use Rattle.wire.specs.Table.{records, noRecord}
 use Rattle.wire.specs.Lookup.{chosen}
 use Rattle.wire.specs.declared.utf8.Utf8.{Utf8}
 use Rattle.wire.specs.declared.table.Export.{Export}
 use Rattle.server.specs.Request.{requestOf, owed}
 use Rattle.server.specs.Session.{Handshake, Greeting, ClientFlags, OptionHead, Naming, Passing, Listing, Declining, Aborting, Exporting}
 use Rattle.server.specs.Session.{Header, Storing, Dropping, Replying, Sending, State, Shaking, Serving, Over}
-use Rattle.server.specs.Session.{greeted, listing, declining, aborting, exporting, flagged, answered, passing, exportAt, found, named, naming, payload, opted}
+use Rattle.server.specs.Session.{greeted, listing, declining, aborting, exporting, judgeFlags, answered, passing, exportAt, found, named, naming, payload, judgeOption}
 use Rattle.server.specs.Session.{sending, replying, storing, dropping, begun, requested, turn}
 use Rattle.server.specs.View.{view}
-use Rattle.server.specs.Ranges.{refusal, Good}
+use Rattle.server.specs.Ranges.{refusal}
+use Rattle.server.specs.Inner.{Good}
 use Rattle.server.specs.Contract.{Serves}
 use Rattle.server.specs.Exchanges.{Apart, Has, announced, served, Only, Via, via, Chose, Untouched}
 use Rattle.server.specs.declared.state.Server.{Server}
@@ -169,8 +170,8 @@ module _ (t m₀ : List ℕ) where
   led-aborting zero = at-end
   led-aborting (suc left) = plain tt
 
-  led-flagged : (h : List ℕ) → L (flagged h)
-  unfolding flagged
+  led-flagged : (h : List ℕ) → L (judgeFlags h)
+  unfolding judgeFlags
   led-flagged h =
       picked L (ltb (length h) 4) (λ _. plain tt)
       λ _. picked L (eqb (number h) 1) (λ _. plain tt) λ _. picked L (eqb (number h) 3) (λ _. plain tt) (λ _. at-end)
@@ -199,8 +200,8 @@ module _ (t m₀ : List ℕ) where
   led-naming z fits text at zero = picked L (whole text) (λ _. led-found z (chosen fits)) (λ _. at-end)
   led-naming z fits text at (suc left) = plain tt
 
-  led-opted : (z : Bool) (h : List ℕ) → L (opted z t h)
-  unfolding opted payload
+  led-opted : (z : Bool) (h : List ℕ) → L (judgeOption z t h)
+  unfolding judgeOption payload
   led-opted z h =
       picked L (eqb (length h) 8) (λ _. picked L (sameBytes h IHAVEOPT) (λ _. plain tt) (λ _. at-end))
       λ _. picked L (ltb (length h) 16) (λ _. plain tt)
@@ -259,7 +260,7 @@ some-record t k {m} {m′} a = go (ltb k (length (records t))) refl
   where
     go : (b : Bool) → ltb k (length (records t)) ≡ b → (k < length (records t)) ⊎ (m′ ≡ m)
     go true q = inl (ltb-true k (length (records t)) q)
-    go false q = let d : getD (records t) k blank ≡ blank = List·getD-eq-default (records t) blank (ltb-false k (length (records t)) q) in inr (rw d at (a .behind))
+    go false q = let d : getD (records t) k noRecord ≡ noRecord = List·getD-eq-default (records t) noRecord (ltb-false k (length (records t)) q) in inr (rw d at (a .behind))
 
 passed : (t : List ℕ) (k : ℕ) {z : Bool} {m m′ is os : List ℕ} {x y : State} → Good t (length m) x
     → Via (turn t) (on x m) (on (found z t (some k)) m) (on y m′) is os → Only (exportAt t k) m y m′

@@ -11,7 +11,7 @@ use native.Mathlib.Omega.{arith}
 use lib.ListN.{length, take, drop}
 use lib.Seq.{take-length}
 use Rattle.machine.specs.Machine.{On, on, gives, Moves}
-use Rattle.machine.specs.Bulk.{Gathers, Quiet}
+use Rattle.machine.proofs.Families.{Gathers, Quiet}
 use Rattle.machine.proofs.Moves.{then}
 use Rattle.machine.proofs.Bulk.{sends, gathers}
 use Rattle.wire.specs.Layouts.{greeting, simpleReply}

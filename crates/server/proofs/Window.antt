@@ -15,7 +15,7 @@ use Rattle.machine.specs.Pieces.{Absorbs, Emits}
 use Rattle.machine.proofs.Leaves.{send-leaf as sends-leaf}
 use Rattle.wire.specs.declared.table.Export.{Export}
 use Rattle.server.specs.Session.{State, Storing, Sending, Serving, storing, sending, window, turn}
-use Rattle.server.specs.Pieces.{Keeps, Shows}
+use Rattle.server.specs.Inner.{Stored, Sent}
 use Rattle.server.proofs.Left.{storing-more, sending-more}
 use Rattle.server.proofs.Session.{each-sent}
 
@@ -53,7 +53,7 @@ put-window m is a k off n h fits l =
     rw (i, e, f, take-add a off m, ← g) (simp append-assoc)
 
 module _ (t : List ℕ) (e : Export) (off left : ℕ) (m : List ℕ) (inside : e .start + e .size ≤ length m) (some : 0 < left) (fits : off + left ≤ e .size) where
-  pub store-leaf : (handle : ℕ) {input m′ w′ : List ℕ} {taken : ℕ} {x : State} → Keeps e handle off left input (window e m) taken x w′
+  pub store-leaf : (handle : ℕ) {input m′ w′ : List ℕ} {taken : ℕ} {x : State} → Stored e handle off left input (window e m) taken x w′
       → m′ ≡ putMid (e .start) (e .start + e .size - e .start) m w′ → Absorbs (turn t) (on (Serving e (Storing handle off left)) m) input taken (on x m′)
   store-leaf handle {input} {m′} {w′} {taken} {x} g q =
       let l : length (take taken input) ≡ taken = length-take taken input ∙ omega (arith, g .least) in
@@ -66,7 +66,7 @@ module _ (t : List ℕ) (e : Export) (off left : ℕ) (m : List ℕ) (inside : e
         stops = λ z _. omega (arith, g .least);
       }
 
-  pub send-leaf : {room room′ : List ℕ} {given : ℕ} {x : State} → Shows e off left (window e m) room given x room′
+  pub send-leaf : {room room′ : List ℕ} {given : ℕ} {x : State} → Sent e off left (window e m) room given x room′
       → Emits (turn t) (on (Serving e (Sending off left)) m) room given (on x m) room′
   send-leaf g =
       sends-leaf (sending e) (window e m) (off + left) (each-sent t e m (off + left)) (sending-more e off left (λ z. omega arith)) (g .least) some refl

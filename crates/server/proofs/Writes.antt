@@ -12,7 +12,7 @@ use native.Mathlib.Omega.{arith}
 use lib.ListN.{length, take, drop}
 use lib.Seq.{sets, sets-eq}
 use Rattle.machine.specs.Machine.{On, on, Turn, gives, takes, rests, Moves, still, by-give, by-take}
-use Rattle.machine.specs.Session.{Further}
+use Rattle.machine.specs.Stream.{Further}
 use Rattle.machine.proofs.Bulk.{drops}
 use Rattle.machine.proofs.Cutting.{one-way}
 use Rattle.wire.specs.Layouts.{simpleReply}

@@ -1,8 +1,15 @@
 -- What the public functions ensure.
---   numberOf      01's number for each outcome; numberAt: and for each place where a step ends
---   Serves        a step: refused, with nothing changed; or as far as the input and the room go
---   Closes        the host reports the end of input: endOfInput; endNumber: its number
---   Heads         the old-style header; headerOf: 01's number for each answer
+--   numberOf      01's number for each outcome
+--   outcomeOf x   the outcome of a step that went as far as x
+--   numberAt      01's number for each place where a step ends
+--   Refuses, Accepts, Serves   a step: refused, with nothing changed; or as far as the input and the room go; and which of the two
+--   owesOutput x  whether output is owed
+--   cutOff s      the end of input in a session that goes on: refused where output is owed, else 12
+--   endedAt, endOfInput      the end of input: by the state, and by the server
+--   endNumberAt, endNumber   its number: by the state, and by the server
+--   Closes        the host reports the end of input
+--   headerOf      01's number for each answer of the old-style header
+--   Heads         the old-style header
 use Prim.Native.Nat.{ℕ}
 use mathlib.Core.Path.{_≡_}
 use mathlib.Core.Bool.{Bool}
@@ -19,11 +26,11 @@ use Rattle.server.specs.View.{view, code}
 use Rattle.server.specs.Ranges.{inRange, refusal}
 use Rattle.server.specs.declared.state.Server.{Server}
 use Rattle.server.specs.declared.Stepped.{Stepped}
-use Rattle.server.specs.declared.Closed.{Closed}
+use Rattle.server.specs.declared.InputEnded.{InputEnded}
 use Rattle.server.specs.declared.oldstyle.HeaderAnswer.{HeaderAnswer}
 use Rattle.server.specs.declared.oldstyle.HeaderAnswer.the-variants.{Written, NoRoom}
-use Rattle.server.specs.declared.Outcome.{Outcome}
-use Rattle.server.specs.declared.Outcome.the-variants.{GoingOn, Ended, Refused}
+use Rattle.server.specs.declared.state.Outcome.{Outcome}
+use Rattle.server.specs.declared.state.Outcome.the-variants.{GoingOn, Ended, Refused}
 
 -- "a session going on or a call that succeeds answers without a number"
 abbrev pub numberOf : Outcome → Option ℕ
@@ -67,16 +74,16 @@ abbrev pub owesOutput : State → Bool
 owesOutput x = owes (turn [] (on x []))
 
 -- "End of input is reported by a call of its own, without bytes: 27, ended, 28, 12"
-abbrev pub cutOff : Server → Bool → Closed
+abbrev pub cutOff : Server → Bool → InputEnded
 cutOff s owed = pick owed (record { state = s; outcome = Refused 28 }) (record { state = code (Over 12); outcome = Ended 12 })
 
-abbrev pub closedAt : Server → State → Closed
-closedAt s (Shaking p) = cutOff s (owesOutput (Shaking p))
-closedAt s (Serving e p) = cutOff s (owesOutput (Serving e p))
-closedAt s (Over n) = record { state = s; outcome = Ended n }
+abbrev pub endedAt : Server → State → InputEnded
+endedAt s (Shaking p) = cutOff s (owesOutput (Shaking p))
+endedAt s (Serving e p) = cutOff s (owesOutput (Serving e p))
+endedAt s (Over n) = record { state = s; outcome = Ended n }
 
-abbrev pub endOfInput : Server → Closed
-endOfInput s = pick (inRange s) (closedAt s (view s)) (record { state = s; outcome = Refused 27 })
+abbrev pub endOfInput : Server → InputEnded
+endOfInput s = pick (inRange s) (endedAt s (view s)) (record { state = s; outcome = Refused 27 })
 
 abbrev pub endNumberAt : State → ℕ
 endNumberAt (Shaking p) = pick (owesOutput (Shaking p)) 28 12
@@ -86,7 +93,7 @@ endNumberAt (Over n) = n
 abbrev pub endNumber : Server → ℕ
 endNumber s = pick (inRange s) (endNumberAt (view s)) 27
 
-pub record Closes (s : Server) (r : Closed) : Type 0 where
+pub record Closes (s : Server) (r : InputEnded) : Type 0 where
   pub result : r ≡ endOfInput s
   pub number : numberOf (r .outcome) ≡ some (endNumber s)
 

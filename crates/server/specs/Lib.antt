@@ -1,9 +1,8 @@
 pub mod Request
 pub mod Session
 pub mod View
-pub mod Owed
 pub mod Ranges
-pub mod Pieces
+pub mod Inner
 pub mod Contract
 pub mod History
 pub mod Exchanges

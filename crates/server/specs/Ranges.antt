@@ -1,25 +1,29 @@
 -- The ranges of docs/STATES.md, and what a step refuses.
+--   unsupported     whether an option is one of those that are declined: 6, 7, 8 and 11
+--   rangedShaking, rangedServing   the ranges of a handshake and of a transmission
+--   part e off left   whether a part of the window is not empty and lies in it
+--   replied error   whether a reply with no data may have this error
+--   behind e error off len   whether these may be a reply's error and the data behind it: none, or a part of the window behind error 0
 --   ranged x        whether a state is within its ranges
 --   tidy s          whether the bytes of `head` that the phase does not use are 0
+--   inRange s       both: else the server is refused as 27
+--   windowFault n e   26 where the export's window passes an image of n bytes, else 0
+--   windowFaultShaking n p   the same for the export that a handshake has chosen
+--   loanFault t n x   the part of the refusal that speaks of what is lent
 --   refusal t n s   why a step is refused, with the table t and an image of n bytes: 27, then 20 to 25 in the handshake, then 26; 0 where it is not
---   lent t n x      the part of it that speaks of what is lent
 use Prim.Native.Nat.{ℕ, _+_}
-use mathlib.Core.Path.{_≡_}
-use mathlib.Core.Bool.{Bool, true, not}
+use mathlib.Core.Bool.{Bool, not}
 use mathlib.Core.List.{List}
 use lib.Dec.{eqb, ltb, leb}
 use lib.ListN.{length, drop}
 use Rattle.machine.specs.Choice.{pick, both, either, between}
 use Rattle.machine.specs.Parts.{blank}
 use Rattle.wire.specs.Constants.{NBD-OPT-EXPORT-NAME, NBD-OPT-INFO, NBD-OPT-GO, NBD-OPT-STRUCTURED-REPLY, NBD-OPT-EXTENDED-HEADERS, NBD-EPERM, NBD-EINVAL, NBD-ENOSPC, NBD-ENOSYS}
-use Rattle.wire.specs.Table.{fault, first, readOnly}
+use Rattle.wire.specs.Table.{fault, firstFault, readOnly}
 use Rattle.wire.specs.declared.table.Export.{Export}
 use Rattle.server.specs.Session.{Handshake, Greeting, ClientFlags, OptionHead, Naming, Passing, Listing, Declining, Aborting, Exporting, replyLength}
 use Rattle.server.specs.Session.{Transmission, Header, Storing, Dropping, Replying, Sending, State, Shaking, Serving, Over}
-use Rattle.server.specs.View.{view}
-use Rattle.server.specs.declared.state.Handshake as hs
-use Rattle.server.specs.declared.state.Transmission as tr
-use Rattle.server.specs.declared.state.Phase as ph
+use Rattle.server.specs.View.{view, used}
 use Rattle.server.specs.declared.state.Server.{Server}
 
 -- ---- the ranges
@@ -65,29 +69,6 @@ ranged (Serving e p) = both (ltb (e .flags) 16) (rangedServing e p)
 ranged (Over n) = leb n 12
 
 -- ---- zeros in what is not used
-abbrev pub usedShaking : hs.Handshake → ℕ
-usedShaking (hs.Handshake.Greeting left) = 0
-usedShaking (hs.Handshake.ClientFlags have) = have
-usedShaking (hs.Handshake.OptionHead z have) = have
-usedShaking (hs.Handshake.Naming z fits text at left) = 0
-usedShaking (hs.Handshake.Passing z option len left) = 0
-usedShaking (hs.Handshake.Listing z left) = 0
-usedShaking (hs.Handshake.Declining z option left) = 0
-usedShaking (hs.Handshake.Aborting left) = 0
-usedShaking (hs.Handshake.Exporting z e left) = 0
-
-abbrev pub usedServing : tr.Transmission → ℕ
-usedServing (tr.Transmission.Header have) = have
-usedServing (tr.Transmission.Storing handle off left) = 0
-usedServing (tr.Transmission.Dropping error handle left) = 0
-usedServing (tr.Transmission.Replying error handle left off len) = 0
-usedServing (tr.Transmission.Sending off left) = 0
-
-abbrev pub used : ph.Phase → ℕ
-used (ph.Phase.Shaking p) = usedShaking p
-used (ph.Phase.Serving e p) = usedServing p
-used (ph.Phase.Over n) = 0
-
 abbrev pub tidy : Server → Bool
 tidy s = blank (drop (used (s .phase)) (s .head))
 
@@ -95,30 +76,25 @@ abbrev pub inRange : Server → Bool
 inRange s = both (tidy s) (ranged (view s))
 
 -- ---- what a step refuses
-abbrev pub outside : ℕ → Export → ℕ
-outside n e = pick (leb (e .start + e .size) n) 0 26
+abbrev pub windowFault : ℕ → Export → ℕ
+windowFault n e = pick (leb (e .start + e .size) n) 0 26
 
 -- the export that is chosen, in the handshake
-abbrev pub outsideShaking : ℕ → Handshake → ℕ
-outsideShaking n (Greeting left) = 0
-outsideShaking n (ClientFlags got) = 0
-outsideShaking n (OptionHead z got) = 0
-outsideShaking n (Naming z fits text at left) = 0
-outsideShaking n (Passing z option len left) = 0
-outsideShaking n (Listing z left) = 0
-outsideShaking n (Declining z option left) = 0
-outsideShaking n (Aborting left) = 0
-outsideShaking n (Exporting z e left) = outside n e
+abbrev pub windowFaultShaking : ℕ → Handshake → ℕ
+windowFaultShaking n (Greeting left) = 0
+windowFaultShaking n (ClientFlags got) = 0
+windowFaultShaking n (OptionHead z got) = 0
+windowFaultShaking n (Naming z fits text at left) = 0
+windowFaultShaking n (Passing z option len left) = 0
+windowFaultShaking n (Listing z left) = 0
+windowFaultShaking n (Declining z option left) = 0
+windowFaultShaking n (Aborting left) = 0
+windowFaultShaking n (Exporting z e left) = windowFault n e
 
-abbrev pub lent : List ℕ → ℕ → State → ℕ
-lent t n (Shaking p) = first (fault n t) (outsideShaking n p)
-lent t n (Serving e p) = outside n e
-lent t n (Over k) = 0
+abbrev pub loanFault : List ℕ → ℕ → State → ℕ
+loanFault t n (Shaking p) = firstFault (fault n t) (windowFaultShaking n p)
+loanFault t n (Serving e p) = windowFault n e
+loanFault t n (Over k) = 0
 
 abbrev pub refusal : List ℕ → ℕ → Server → ℕ
-refusal t n s = pick (inRange s) (lent t n (view s)) 27
-
--- a state that a step accepts
-pub record Good (t : List ℕ) (n : ℕ) (x : State) : Type 0 where
-  pub within : ranged x ≡ true
-  pub fits : lent t n x ≡ 0
+refusal t n s = pick (inRange s) (loanFault t n (view s)) 27

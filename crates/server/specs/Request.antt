@@ -1,6 +1,7 @@
 -- What a request is owed: the one root of the transmission's rules (01, "Server on the wire").
 --   requestOf h          the fields of a request's 28 bytes
 --   past e r             "offset + length > size as whole numbers"
+--   owedRead, owedWrite  what a READ and a WRITE are owed
 --   owed e r             what the request r is owed of the export e
 use Prim.Native.Nat.{ℕ, _+_}
 use mathlib.Core.Bool.{Bool}

@@ -6,8 +6,23 @@
 -- gathered, judged by `owed` of Request.antt, and what is owed is done: a reply, a reply and data of the window, a payload stored or dropped.
 -- While output is owed nothing is taken. "Over" is the end; it rests.
 --
---   State         where a session stands
---   turn t        one byte, with the table t and the image lent
+--   Handshake, Transmission        where a handshake stands; where a transmission stands
+--   State                          where a session stands
+--   window e m                     the bytes of the image in the export's window
+--   listReplies, declined, aborted, exported   the replies to LIST, to an option that is not supported, to ABORT and to EXPORT_NAME
+--   greeted, listing, declining, aborting, exporting   the state when so many bytes are left of the greeting, and of each of these replies
+--   sending, replying              the state when so many bytes are left of the data, and of a reply, with data behind it or none
+--   answering                      a reply with no data is owed
+--   storing, dropping              the state when so many bytes are left of a payload that is stored, and of one that is refused
+--   judgeFlags                     the state after so many bytes of the client's flags
+--   answered, passing              an option whose payload was taken, other than EXPORT_NAME; the state when so many bytes of that payload are left
+--   replyLength z                  how long the reply to EXPORT_NAME is
+--   exportAt t k                   the export of record k of the table
+--   found, named                   a name whose last byte was taken: by the record that is chosen; by the set and the text
+--   naming                         the state when so many bytes of a name are left
+--   payload, judgeOption           the state after an option's 16 bytes; the state after so many of them
+--   begun, requested               the state after a request's 28 bytes, by what it is owed; the state after so many of them
+--   turn t                         one byte, with the table t and the image lent
 use Prim.Native.Nat.{ℕ, zero, suc, _+_}
 use mathlib.Core.Bool.{Bool, true, false}
 use mathlib.Core.List.{List, [], _∷_, _++_}
@@ -16,14 +31,12 @@ use lib.Dec.{eqb, ltb, leb}
 use lib.ListN.{length, getD, set, take, drop}
 use Rattle.machine.specs.Choice.{pick}
 use Rattle.machine.specs.Machine.{On, on, Turn, gives, takes, rests}
-use Rattle.machine.specs.Bulk.{less}
-use Rattle.machine.specs.Parts.{owing}
+use Rattle.machine.specs.Parts.{less, owing}
 use Rattle.wire.specs.Fields.{be, number, field, sameBytes}
 use Rattle.wire.specs.Constants.{IHAVEOPT, rustnbd, NBD-REQUEST-MAGIC, NBD-OPT-EXPORT-NAME, NBD-OPT-ABORT, NBD-OPT-LIST, NBD-OPT-STARTTLS, NBD-OPT-INFO, NBD-OPT-GO, NBD-OPT-STRUCTURED-REPLY, NBD-OPT-EXTENDED-HEADERS, NBD-REP-ACK, NBD-REP-SERVER, NBD-REP-ERR-UNSUP}
 use Rattle.wire.specs.Layouts.{greeting, optionReply, exportReply, simpleReply}
 use Rattle.wire.specs.Utf8.{next, whole}
-use Rattle.wire.specs.Table.{records, blank, wireFlags}
-use Rattle.wire.specs.Walk.{exportOf}
+use Rattle.wire.specs.Table.{records, noRecord, wireFlags, exportOf}
 use Rattle.wire.specs.Lookup.{started, narrowed, chosen}
 use Rattle.wire.specs.declared.utf8.Utf8.{Utf8}
 use Rattle.wire.specs.declared.utf8.Utf8.the-variants.{Start}
@@ -116,8 +129,8 @@ dropping e error handle zero = answering e error handle
 dropping e error handle (suc left) = Serving e (Dropping error handle (suc left))
 
 -- ---- the client's flags: "must be 1 or 3"
-unfoldable pub flagged : List ℕ → State
-flagged h =
+unfoldable pub judgeFlags : List ℕ → State
+judgeFlags h =
     pick (ltb (length h) 4) (Shaking (ClientFlags h))
     (pick (eqb (number h) 1) (Shaking (OptionHead true [])) (pick (eqb (number h) 3) (Shaking (OptionHead false [])) (Over 1)))
 
@@ -141,7 +154,7 @@ abbrev pub replyLength : Bool → ℕ
 replyLength z = pick z 134 10
 
 abbrev pub exportAt : List ℕ → ℕ → Export
-exportAt t k = exportOf (getD (records t) k blank)
+exportAt t k = exportOf (getD (records t) k noRecord)
 
 abbrev pub found : Bool → List ℕ → Option ℕ → State
 found z t none = Over 6
@@ -154,10 +167,6 @@ abbrev pub naming : Bool → List ℕ → List Bool → Utf8 → ℕ → ℕ →
 naming z t fits text at zero = named z t fits text
 naming z t fits text at (suc left) = Shaking (Naming z fits text at (suc left))
 
--- how many bytes of an option there are when the next is judged
-abbrev pub optionUntil : ℕ → ℕ
-optionUntil have = pick (ltb have 8) 8 16
-
 -- ---- an option's 16 bytes: "Magic is judged after its 8 bytes, length after its 4, everything else only after the whole payload is taken"
 unfoldable pub payload : Bool → List ℕ → ℕ → ℕ → State
 payload z t option len =
@@ -165,14 +174,10 @@ payload z t option len =
     (pick (eqb option NBD-OPT-EXPORT-NAME) (naming z t (started (records t) len) Start 0 len) (passing z option len len))
     (Over 3)
 
-unfoldable pub opted : Bool → List ℕ → List ℕ → State
-opted z t h =
+unfoldable pub judgeOption : Bool → List ℕ → List ℕ → State
+judgeOption z t h =
     pick (eqb (length h) 8) (pick (sameBytes h IHAVEOPT) (Shaking (OptionHead z h)) (Over 2))
     (pick (ltb (length h) 16) (Shaking (OptionHead z h)) (payload z t (field h 8 4) (field h 12 4)))
-
--- how many bytes of a request there are when the next is judged
-abbrev pub requestUntil : ℕ → ℕ
-requestUntil have = pick (ltb have 4) 4 28
 
 -- ---- a request's 28 bytes: "The magic is judged after 4 bytes, the type after all 28"
 abbrev pub begun : Export → Request → Answer → State
@@ -191,8 +196,8 @@ requested e h =
 -- ---- one byte
 abbrev pub turn : List ℕ → On State → Turn (On State)
 turn t (on (Shaking (Greeting left)) m) = gives (owing greeting left) (on (greeted (less left)) m)
-turn t (on (Shaking (ClientFlags got)) m) = takes (λ b. on (flagged (got ++ b ∷ [])) m)
-turn t (on (Shaking (OptionHead z got)) m) = takes (λ b. on (opted z t (got ++ b ∷ [])) m)
+turn t (on (Shaking (ClientFlags got)) m) = takes (λ b. on (judgeFlags (got ++ b ∷ [])) m)
+turn t (on (Shaking (OptionHead z got)) m) = takes (λ b. on (judgeOption z t (got ++ b ∷ [])) m)
 turn t (on (Shaking (Naming z fits text at left)) m) =
     takes (λ b. on (naming z t (narrowed (records t) at b fits) (next text b) (suc at) (less left)) m)
 turn t (on (Shaking (Passing z option len left)) m) = takes (λ b. on (passing z option len (less left)) m)

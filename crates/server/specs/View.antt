@@ -1,7 +1,11 @@
 -- The state that a server stands for, and the one server that stands for a state.
---   view s     the state that the struct stands for
---   code x     the struct that stands for the state, with 0 in what is not used
---   used p     how many bytes of `head` the phase uses
+--   handshakeOf h, transmissionOf h, viewOf h    the state that a phase stands for, with the bytes h in `head`: of a handshake, of a transmission, of the whole
+--   view s                                       the state that the struct stands for
+--   handshakePhase, transmissionPhase, phaseOf   the phase that stands for a state: of a handshake, of a transmission, of the whole
+--   gotShaking, gotServing, gathered             the bytes gathered so far: in a handshake, in a transmission, in any state
+--   padded got                                   the array `head` of the bytes gathered, with 0 behind them
+--   code x                                       the struct that stands for the state, with 0 in what is not used
+--   usedShaking, usedServing, used p             how many bytes of `head` the phase uses: of a handshake, of a transmission, of the whole
 use Prim.Native.Nat.{ℕ, _-_}
 use mathlib.Core.List.{List, [], _++_}
 use lib.ListN.{length, take, replicate}
@@ -93,3 +97,27 @@ padded got = got ++ replicate (28 - length got) 0
 
 abbrev pub code : State → Server
 code x = record { phase = phaseOf x; head = padded (gathered x) }
+
+-- ---- how many bytes of `head` are used
+abbrev pub usedShaking : hs.Handshake → ℕ
+usedShaking (hs.Handshake.Greeting left) = 0
+usedShaking (hs.Handshake.ClientFlags have) = have
+usedShaking (hs.Handshake.OptionHead z have) = have
+usedShaking (hs.Handshake.Naming z fits text at left) = 0
+usedShaking (hs.Handshake.Passing z option len left) = 0
+usedShaking (hs.Handshake.Listing z left) = 0
+usedShaking (hs.Handshake.Declining z option left) = 0
+usedShaking (hs.Handshake.Aborting left) = 0
+usedShaking (hs.Handshake.Exporting z e left) = 0
+
+abbrev pub usedServing : tr.Transmission → ℕ
+usedServing (tr.Transmission.Header have) = have
+usedServing (tr.Transmission.Storing handle off left) = 0
+usedServing (tr.Transmission.Dropping error handle left) = 0
+usedServing (tr.Transmission.Replying error handle left off len) = 0
+usedServing (tr.Transmission.Sending off left) = 0
+
+abbrev pub used : ph.Phase → ℕ
+used (ph.Phase.Shaking p) = usedShaking p
+used (ph.Phase.Serving e p) = usedServing p
+used (ph.Phase.Over n) = 0

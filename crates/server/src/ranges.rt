@@ -1,21 +1,27 @@
-// The ranges of docs/STATES.md: a state outside them is refused as 27.
+// What is refused: a state outside the ranges of docs/STATES.md, and a table or an image that will not do.
 use crate::request;
 use crate::state::Handshake;
 use crate::state::Phase;
 use crate::state::Server;
 use crate::state::Transmission;
 use machine::parts;
+use machine::tests::between;
+use machine::tests::both;
+use machine::tests::either;
+use machine::tests::within;
 use wire::consts;
+use wire::table;
 use wire::table::Export;
 ghost use mathlib.Core.Path.{_≡_};
 ghost use mathlib.Core.Bool.{not};
-ghost use Prim.Native.Nat.{_+_};
+ghost use mathlib.Core.List.{List};
+ghost use Prim.Native.Nat.{ℕ, _+_};
 ghost use lib.Dec.{eqb, ltb, leb};
 ghost use Rattle.machine.specs.Choice.{pick, both, either, between};
 ghost use Rattle.wire.specs.Constants.{NBD-OPT-EXPORT-NAME, NBD-EPERM, NBD-ENOSPC};
-ghost use Rattle.wire.specs.Table.{readOnly};
+ghost use Rattle.wire.specs.Table.{firstFault, readOnly};
 ghost use Rattle.server.specs.Session.{replyLength};
-ghost use Rattle.server.specs.View.{view, handshakeOf, transmissionOf};
+ghost use Rattle.server.specs.View.{view, handshakeOf, transmissionOf, usedShaking, usedServing, used};
 ghost use Rattle.server.specs.Ranges.{
   unsupported,
   rangedShaking,
@@ -24,38 +30,12 @@ ghost use Rattle.server.specs.Ranges.{
   behind,
   rangedServing,
   ranged,
-  usedShaking,
-  usedServing,
-  used,
   inRange,
+  windowFault,
+  windowFaultShaking,
+  loanFault,
+  refusal,
 };
-
-// ---- tests, without a branch
-
-fn both(a: bool, b: bool) -> bool
-    ensures { λ r. ⌜ r ≡ both a b ⌝ }
-{
-    if a { b } else { false }
-}
-
-fn either(a: bool, b: bool) -> bool
-    ensures { λ r. ⌜ r ≡ either a b ⌝ }
-{
-    if a { true } else { b }
-}
-
-fn between(lo: usize, hi: usize, n: usize) -> bool
-    ensures { λ r. ⌜ r ≡ between lo hi n ⌝ }
-{
-    both(lo <= n, n <= hi)
-}
-
-// Whether off + left is at most n, as whole numbers.
-pub fn fits(off: usize, left: usize, n: usize) -> bool
-    ensures { λ r. ⌜ r ≡ leb (off + left) n ⌝ }
-{
-    if left <= n { off <= n - left } else { false }
-}
 
 // ---- the phases
 
@@ -101,7 +81,7 @@ fn ranged_shaking(head: [u8; 28], p: Handshake) -> bool
         Handshake::Greeting { left } => between(1, 18, left),
         Handshake::ClientFlags { have } => have < 4,
         Handshake::OptionHead { have, .. } => have < 16,
-        Handshake::Naming { at, left, .. } => both(0 < left, fits(at, left, 100000)),
+        Handshake::Naming { at, left, .. } => both(0 < left, within(at, left, 100000)),
         Handshake::Passing {
             option,
             len,
@@ -125,7 +105,7 @@ fn ranged_shaking(head: [u8; 28], p: Handshake) -> bool
 fn part(e: Export, off: usize, left: usize) -> bool
     ensures { λ r. ⌜ r ≡ part e off left ⌝ }
 {
-    both(0 < left, fits(off, left, e.size as usize))
+    both(0 < left, within(off, left, e.size as usize))
 }
 
 fn replied(error: u32) -> bool
@@ -147,7 +127,7 @@ fn behind(e: Export, error: u32, off: usize, len: usize) -> bool
     if len == 0 {
         both(off == 0, replied(error))
     } else {
-        both(error == 0, fits(off, len, e.size as usize))
+        both(error == 0, within(off, len, e.size as usize))
     }
 }
 
@@ -241,4 +221,61 @@ pub fn in_range(s: Server) -> bool
     let p = s.phase;
     let k = used(p);
     both(parts::blank(&head, k), ranged(s))
+}
+
+// ---- what a step refuses
+
+// Whether the export's window lies in an image of n bytes: 0, or 26.
+fn window_fault(e: Export, n: usize) -> u8
+    ensures { λ r. ⌜ r ≡ windowFault n e ⌝ }
+{
+    if table::window_fits(e, n) { 0 } else { 26 }
+}
+
+fn window_fault_shaking(p: Handshake, n: usize) -> u8
+    ensures { λ r. ⌜ ((h : List ℕ) → r ≡ windowFaultShaking n (handshakeOf h p)) ⌝ }
+{
+    match p {
+        Handshake::Exporting { export, .. } => window_fault(export, n),
+        Handshake::Greeting { .. } => 0,
+        Handshake::ClientFlags { .. } => 0,
+        Handshake::OptionHead { .. } => 0,
+        Handshake::Naming { .. } => 0,
+        Handshake::Passing { .. } => 0,
+        Handshake::Listing { .. } => 0,
+        Handshake::Declining { .. } => 0,
+        Handshake::Aborting { .. } => 0,
+    }
+}
+
+fn first_fault(a: u8, b: u8) -> u8
+    ensures { λ r. ⌜ r ≡ firstFault a b ⌝ }
+{
+    if a == 0 { b } else { a }
+}
+
+// What is wrong with what is lent: 20 to 25, then 26; 0 where nothing is.
+fn loan_fault(s: Server, table: &[u8], n: usize) -> u8
+    ensures { λ r. ⌜ r ≡ loanFault (now (table .entry)) n (view s) ⌝ }
+{
+    let p = s.phase;
+    match p {
+        Phase::Shaking(h) => first_fault(
+            table::check(table, n).number(),
+            window_fault_shaking(h, n),
+        ),
+        Phase::Serving(e, _) => window_fault(e, n),
+        Phase::Over(_) => 0,
+    }
+}
+
+// Why a step is refused; 0 where it is not.
+pub fn refusal(s: Server, table: &[u8], n: usize) -> u8
+    ensures { λ r. ⌜ r ≡ refusal (now (table .entry)) n s ⌝ }
+{
+    if in_range(s) {
+        loan_fault(s, table, n)
+    } else {
+        27
+    }
 }

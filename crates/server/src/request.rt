@@ -1,4 +1,5 @@
 // What a request is owed.
+use machine::tests::within;
 use wire::consts;
 use wire::fields;
 use wire::table::Export;
@@ -49,12 +50,7 @@ pub fn read_only(e: Export) -> bool
 fn past(e: Export, r: Request) -> bool
     ensures { λ b. ⌜ b ≡ past e r ⌝ }
 {
-    let len = r.len as u64;
-    if len <= e.size {
-        e.size - len < r.offset
-    } else {
-        true
-    }
+    !within(r.offset as usize, r.len as usize, e.size as usize)
 }
 
 fn owed_read(e: Export, r: Request) -> Answer

@@ -94,6 +94,16 @@ pub struct Server {
     pub head: [u8; 28],
 }
 
+// ---- what a call answers
+
+pub enum Outcome {
+    GoingOn,
+    // with 01's number, now or before
+    Ended(u8),
+    // with 01's number; nothing has changed
+    Refused(u8),
+}
+
 // ---- what the parts of a step answer
 
 pub struct Took {

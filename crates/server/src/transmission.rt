@@ -1,4 +1,5 @@
 // The transmission: requests, one after the other, on the window of the export that was chosen.
+use crate::idle;
 use crate::request;
 use crate::request::Answer;
 use crate::request::Request;
@@ -13,31 +14,28 @@ use wire::consts;
 use wire::fields;
 use wire::table::Export;
 ghost use mathlib.Core.Path.{_≡_};
+ghost use mathlib.Core.Bool.{true};
 ghost use mathlib.Core.List.{List, []};
 ghost use Prim.Native.Nat.{ℕ, _+_, _-_, _<_, _≤_};
 ghost use lib.ListN.{length, take};
 ghost use lib.Seq.{paste};
-ghost use Rattle.machine.specs.Machine.{on};
-ghost use Rattle.machine.specs.Pieces.{Absorbs, Emits};
 ghost use Rattle.wire.specs.Layouts.{simpleReply};
 ghost use Rattle.server.specs.Session.{
   Header,
-  Storing,
   Dropping,
   Replying,
-  Sending,
   Serving,
   sending,
   replying,
   storing,
   dropping,
-  requestUntil,
   begun,
   requested,
-  turn,
 };
-ghost use Rattle.server.specs.View.{view, viewOf};
-ghost use Rattle.server.specs.Pieces.{Keeps, Shows};
+ghost use Rattle.server.specs.View.{view, viewOf, transmissionOf};
+ghost use Rattle.server.specs.Ranges.{rangedServing};
+ghost use Rattle.server.specs.Contract.{owesOutput};
+ghost use Rattle.server.specs.Inner.{requestUntil, Stored, Sent, Absorbed, Emitted};
 
 // ---- the phases that follow where nothing may be left
 
@@ -155,9 +153,9 @@ fn simple_reply(error: u32, handle: u64) -> [u8; 16]
 
 // ---- one leaf for each phase
 
-pub fn take_header(head: [u8; 28], e: Export, have: usize, input: &[u8]) -> Took
+fn take_header(head: [u8; 28], e: Export, have: usize, input: &[u8]) -> Took
     requires { ⌜ (have < 28) × (0 < length (now input)) ⌝ }
-    ensures { λ r. ⌜ ((t m : List ℕ) → Absorbs (turn t) (on (Serving e (Header (take have head))) m) (now (input .entry)) (r .taken) (on (view (r .state)) m)) ⌝ }
+    ensures { λ r. ⌜ ((t m : List ℕ) → Absorbed t (Serving e (Header (take have head))) m (now (input .entry)) r m) ⌝ }
 {
     let mut bytes = head;
     let n = parts::gather(&mut bytes, have, until(have), input);
@@ -169,7 +167,7 @@ pub fn take_header(head: [u8; 28], e: Export, have: usize, input: &[u8]) -> Took
 }
 
 // Payload into the window.
-pub fn store(
+fn store(
     head: [u8; 28],
     e: Export,
     handle: u64,
@@ -179,7 +177,7 @@ pub fn store(
     window: &mut [u8],
 ) -> Took
     requires { ⌜ (0 < left) × (off + left ≤ length (now window)) ⌝ }
-    ensures { λ r. ⌜ Keeps e handle off left (now (input .entry)) (now (window .entry)) (r .taken) (view (r .state)) (now (window .exit)) ⌝ }
+    ensures { λ r. ⌜ Stored e handle off left (now (input .entry)) (now (window .entry)) (r .taken) (view (r .state)) (now (window .exit)) ⌝ }
 {
     let n = copy::least(left, input.len());
     copy::copy_part(input, 0, window, off, n);
@@ -191,16 +189,9 @@ pub fn store(
 }
 
 // Payload that is refused.
-pub fn discard(
-    head: [u8; 28],
-    e: Export,
-    error: u32,
-    handle: u64,
-    left: usize,
-    count: usize,
-) -> Took
+fn discard(head: [u8; 28], e: Export, error: u32, handle: u64, left: usize, count: usize) -> Took
     requires { ⌜ 0 < left ⌝ }
-    ensures { λ r. ⌜ ((t m input : List ℕ) → length input ≡ count → Absorbs (turn t) (on (Serving e (Dropping error handle left)) m) input (r .taken) (on (view (r .state)) m)) ⌝ }
+    ensures { λ r. ⌜ ((t m input : List ℕ) → length input ≡ count → Absorbed t (Serving e (Dropping error handle left)) m input r m) ⌝ }
 {
     let n = copy::least(left, count);
     let phase = dropping(e, error, handle, left - n);
@@ -210,7 +201,7 @@ pub fn discard(
     }
 }
 
-pub fn reply(
+fn reply(
     head: [u8; 28],
     e: Export,
     error: u32,
@@ -221,7 +212,7 @@ pub fn reply(
     room: &mut [u8],
 ) -> Gave
     requires { ⌜ (0 < left) × (left ≤ 16) ⌝ }
-    ensures { λ r. ⌜ ((t m : List ℕ) → Emits (turn t) (on (Serving e (Replying error handle left off len)) m) (now (room .entry)) (r .given) (on (view (r .state)) m) (now (room .exit))) ⌝ }
+    ensures { λ r. ⌜ ((t m : List ℕ) → Emitted t (Serving e (Replying error handle left off len)) m (now (room .entry)) r (now (room .exit))) ⌝ }
 {
     let bytes = simple_reply(error, handle);
     let n = parts::give(&bytes, left, room);
@@ -233,16 +224,9 @@ pub fn reply(
 }
 
 // Bytes of the window.
-pub fn send(
-    head: [u8; 28],
-    e: Export,
-    off: usize,
-    left: usize,
-    window: &[u8],
-    room: &mut [u8],
-) -> Gave
+fn send(head: [u8; 28], e: Export, off: usize, left: usize, window: &[u8], room: &mut [u8]) -> Gave
     requires { ⌜ (0 < left) × (off + left ≤ length (now window)) ⌝ }
-    ensures { λ r. ⌜ Shows e off left (now (window .entry)) (now (room .entry)) (r .given) (view (r .state)) (now (room .exit)) ⌝ }
+    ensures { λ r. ⌜ Sent e off left (now (window .entry)) (now (room .entry)) (r .given) (view (r .state)) (now (room .exit)) ⌝ }
 {
     let n = copy::least(left, room.len());
     copy::copy_part(window, off, room, 0, n);
@@ -250,5 +234,66 @@ pub fn send(
     Gave {
         state: Server { phase, head },
         given: n,
+    }
+}
+
+// Whether output is owed.
+pub fn owes(p: Transmission) -> bool
+    ensures { λ r. ⌜ ((h : List ℕ) (e : Export) → r ≡ owesOutput (Serving e (transmissionOf h p))) ⌝ }
+{
+    match p {
+        Transmission::Header { .. } => false,
+        Transmission::Storing { .. } => false,
+        Transmission::Dropping { .. } => false,
+        Transmission::Replying { .. } => true,
+        Transmission::Sending { .. } => true,
+    }
+}
+
+// ---- the phases put together
+
+// Takes what the phase takes of the input.
+pub fn absorb(head: [u8; 28], e: Export, p: Transmission, input: &[u8], image: &mut [u8]) -> Took
+    requires { ⌜ (0 < length (now input)) × (rangedServing e (transmissionOf head p) ≡ true) × (e .start + e .size ≤ length (now image)) ⌝ }
+    ensures { λ r. ⌜ ((t : List ℕ) → Absorbed t (Serving e (transmissionOf head p)) (now (image .entry)) (now (input .entry)) r (now (image .exit))) ⌝ }
+{
+    match p {
+        Transmission::Header { have } => take_header(head, e, have, input),
+        Transmission::Storing { handle, off, left } => {
+            let a = e.start as usize;
+            let b = a + e.size as usize;
+            store(head, e, handle, off, left, input, &mut image[a..b])
+        }
+        Transmission::Dropping {
+            error,
+            handle,
+            left,
+        } => discard(head, e, error, handle, left, input.len()),
+        Transmission::Replying { .. } => idle::takes_none(Phase::Serving(e, p), head),
+        Transmission::Sending { .. } => idle::takes_none(Phase::Serving(e, p), head),
+    }
+}
+
+// Gives what the phase owes into the room.
+pub fn emit(head: [u8; 28], e: Export, p: Transmission, room: &mut [u8], image: &[u8]) -> Gave
+    requires { ⌜ (rangedServing e (transmissionOf head p) ≡ true) × (e .start + e .size ≤ length (now image)) ⌝ }
+    ensures { λ r. ⌜ ((t : List ℕ) → Emitted t (Serving e (transmissionOf head p)) (now (image .entry)) (now (room .entry)) r (now (room .exit))) ⌝ }
+{
+    match p {
+        Transmission::Replying {
+            error,
+            handle,
+            left,
+            off,
+            len,
+        } => reply(head, e, error, handle, left, off, len, room),
+        Transmission::Sending { off, left } => {
+            let a = e.start as usize;
+            let b = a + e.size as usize;
+            send(head, e, off, left, &image[a..b], room)
+        }
+        Transmission::Header { .. } => idle::gives_none(Phase::Serving(e, p), head),
+        Transmission::Storing { .. } => idle::gives_none(Phase::Serving(e, p), head),
+        Transmission::Dropping { .. } => idle::gives_none(Phase::Serving(e, p), head),
     }
 }

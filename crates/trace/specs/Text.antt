@@ -1,10 +1,12 @@
 -- What a line shows.
 --   hexOf      bytes as two lowercase digits each
---   twos       the signed number that 64 bits stand for, in two's complement
 --   lineOf     what an outcome of the server's says in a line
+--   valueShown   the value of a call that succeeds, as a line shows it
 --   calledOf   what an outcome of the client's says
+--   isResize   whether a call is a resize
 --   resizing   whether the open call is a resize, whose line shows the client's size
 --   sizeOf     that size
+--   twos       the signed number that 64 bits stand for, in two's complement
 --   unchanged  whether every byte of a room is still AA
 use Prim.Native.Nat.{ℕ, _-_, _/_, _%_, _^_}
 use mathlib.Core.Bool.{Bool, true, false}
@@ -13,8 +15,8 @@ use lib.Dec.{eqb, ltb}
 use lib.IntN.{ℤ, pos, negsuc}
 use Rattle.machine.specs.Choice.{both, pick}
 use Rattle.io.specs.Digits.{glyph}
-use Rattle.server.specs.declared.Outcome.{Outcome}
-use Rattle.server.specs.declared.Outcome.the-variants as outcome
+use Rattle.server.specs.declared.state.Outcome.{Outcome}
+use Rattle.server.specs.declared.state.Outcome.the-variants as outcome
 use Rattle.client.specs.declared.state.Value.{Value}
 use Rattle.client.specs.declared.state.Value.the-variants.{Opened, Bytes, Position, Nothing}
 use Rattle.client.specs.declared.state.Call.{Call}

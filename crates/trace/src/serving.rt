@@ -8,9 +8,9 @@ use crate::print::Answer;
 use crate::room;
 use crate::room::Made;
 use crate::room::Moved;
-use server::Outcome;
 use server::oldstyle;
 use server::oldstyle::HeaderAnswer;
+use server::state::Outcome;
 ghost use mathlib.Core.Path.{_≡_};
 ghost use Prim.Native.Nat.{_≤_};
 ghost use lib.ListN.{length};
@@ -39,10 +39,10 @@ pub fn step(h: Host, k: Step, still: &[u8], lent: &mut [u8], room: &mut [u8]) ->
     let n = k.room;
     let s = h.server;
     let r = s.step(
-        &still[table..last],
-        &mut lent[0..m],
         &still[4..end],
         &mut room[0..n],
+        &still[table..last],
+        &mut lent[0..m],
     );
     let o = r.outcome;
     let moved = Moved {

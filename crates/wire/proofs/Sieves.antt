@@ -22,8 +22,8 @@ use borrow.Author.Tests.{lt-ltb, le-ltb}
 use Rattle.machine.specs.Choice.{pick, both}
 use Rattle.wire.specs.Fields.{sameBytes}
 use Rattle.wire.specs.Table.{Record, recordsIn}
-use Rattle.wire.specs.Lookup.{startedIn, started, has, hasAll, narrowed, narrowedBy, digit, word, bits, setOf}
-use Rattle.wire.specs.Walk.{recordAt, FrontAt, sieve, passed}
+use Rattle.wire.specs.Lookup.{startedIn, started, has, narrowed, narrowedBy, digit, word, bits, setOf}
+use Rattle.wire.specs.Walk.{hasAll, recordAt, FrontAt, sieve, passed}
 use Rattle.wire.specs.declared.lookup.Sieve.{Sieve}
 use Rattle.wire.specs.declared.table.Front.{Front as CodeFront}
 use Rattle.wire.specs.declared.table.Entry.{Entry}

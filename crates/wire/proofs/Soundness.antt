@@ -16,7 +16,7 @@ use borrow.Author.Tests.{ltb-true, lt-ltb, leb-true, le-leb, eqb-true}
 use Rattle.machine.specs.Choice.{pick}
 use Rattle.wire.specs.Fields.{Bytes}
 use Rattle.wire.specs.Utf8.{valid}
-use Rattle.wire.specs.Table.{Record, blank, Front, nothing, broken, entry, front, listed, recordsIn, records, recordFault, first, judged, faults, fault, recordBytes, recordsBytes, tableBytes, SoundRecord, Each, Sound}
+use Rattle.wire.specs.Table.{Record, noRecord, Front, nothing, broken, entry, front, listed, recordsIn, records, recordFault, firstFault, judged, faults, fault, recordBytes, recordsBytes, tableBytes, SoundRecord, Each, Sound}
 use Rattle.wire.proofs.Fronts.{front-empty, front-record, front-bytes}
 
 -- ---- one record
@@ -44,7 +44,7 @@ record Accepted (n k : ℕ) (l : List ℕ) (rs : List Record) : Type 0 where
   each : Each n rs
   bytes : l ≡ recordsBytes rs
 
-firsts : (f later : ℕ) → first f later ≡ 0 → (f ≡ 0) × (later ≡ 0)
+firsts : (f later : ℕ) → firstFault f later ≡ 0 → (f ≡ 0) × (later ≡ 0)
 firsts zero later e = (refl, e)
 firsts (suc f) later e = absurd (omega arith)
 
@@ -120,20 +120,20 @@ unfolding fault records
 table-sound n rs s = (faultless n 32 rs (s .at-most) (s .each), read-back n 32 rs (s .at-most) (s .each))
 
 -- ---- record k
-each-at : (n : ℕ) (rs : List Record) → Each n rs → (k : ℕ) → k < length rs → SoundRecord n (getD rs k blank)
+each-at : (n : ℕ) (rs : List Record) → Each n rs → (k : ℕ) → k < length rs → SoundRecord n (getD rs k noRecord)
 each-at n [] s k h = absurd (omega arith)
 each-at n (r ∷ rs) s zero h = s .0
 each-at n (r ∷ rs) s (suc k) h = each-at n rs (s .1) k (omega arith)
 
-pub sound-at : {n : ℕ} {rs : List Record} → Sound n rs → (k : ℕ) → k < length rs → SoundRecord n (getD rs k blank)
+pub sound-at : {n : ℕ} {rs : List Record} → Sound n rs → (k : ℕ) → k < length rs → SoundRecord n (getD rs k noRecord)
 sound-at {n} {rs} s k h = each-at n rs (s .each) k h
 
-windows : (n : ℕ) (rs : List Record) → Each n rs → (k : ℕ) → getD rs k blank .start + getD rs k blank .size ≤ n
+windows : (n : ℕ) (rs : List Record) → Each n rs → (k : ℕ) → getD rs k noRecord .start + getD rs k noRecord .size ≤ n
 windows n [] s k = omega arith
 windows n (r ∷ rs) s zero = s .0 .window
 windows n (r ∷ rs) s (suc k) = windows n rs (s .1) k
 
-pub window-at : {n : ℕ} {rs : List Record} → Sound n rs → (k : ℕ) → getD rs k blank .start + getD rs k blank .size ≤ n
+pub window-at : {n : ℕ} {rs : List Record} → Sound n rs → (k : ℕ) → getD rs k noRecord .start + getD rs k noRecord .size ≤ n
 window-at {n} {rs} s k = windows n rs (s .each) k
 
 -- ---- the numbers
@@ -146,7 +146,7 @@ record-range true true false = inr (omega arith)
 record-range true false w = inr (omega arith)
 record-range false v w = inr (omega arith)
 
-first-range : (f later : ℕ) → InRange f → InRange later → InRange (first f later)
+first-range : (f later : ℕ) → InRange f → InRange later → InRange (firstFault f later)
 first-range zero later a b = b
 first-range (suc f) later a b = a
 

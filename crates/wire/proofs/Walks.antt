@@ -14,7 +14,7 @@ use lib.ListN.{length, getD, drop, drop-of-length-le}
 use lib.Seq.{drop-cons}
 use borrow.Author.Tests.{eq-eqb, ne-eqb}
 use Rattle.wire.specs.Table.{Record, Front, nothing, broken, entry, front, listed, recordsIn, records, judged, faults, fault}
-use Rattle.wire.specs.Walk.{goesOn, Goes}
+use Rattle.wire.specs.Walk.{goesOn, Continues}
 use Rattle.wire.specs.declared.table.Judged.{Judged}
 
 -- ---- the check
@@ -33,7 +33,7 @@ unfolding fault
 fault-start n [] h = absurd (omega arith)
 fault-start n (v ∷ l) h = rw (eq-eqb v 1 h)
 
-pub faults-turn : (n k i : ℕ) (t : List ℕ) {j g : Judged} → j ≡ g → Goes t j (judged n (front (drop i t))) → 0 < k
+pub faults-turn : (n k i : ℕ) (t : List ℕ) {j g : Judged} → j ≡ g → Continues t j (judged n (front (drop i t))) → 0 < k
     → goesOn t g (faults n (k - 1)) ≡ faults n k (drop i t)
 unfolding faults
 faults-turn n zero i t q e h = absurd (omega arith)

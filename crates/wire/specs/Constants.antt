@@ -1,4 +1,16 @@
 -- The protocol's constants, under the crate's names, and its fixed strings.
+--   NBDMAGIC, IHAVEOPT, OLDSTYLE, rustnbd                                          the fixed strings; OLDSTYLE is the second magic of the old style
+--   NBD-OPT-REPLY-MAGIC, NBD-REQUEST-MAGIC, NBD-REPLY-MAGIC                        magic numbers
+--   NBD-FLAG-FIXED-NEWSTYLE, NBD-FLAG-NO-ZEROES                                    handshake flags of the server
+--   NBD-FLAG-C-FIXED-NEWSTYLE, NBD-FLAG-C-NO-ZEROES                                handshake flags of the client
+--   NBD-OPT-EXPORT-NAME, NBD-OPT-ABORT, NBD-OPT-LIST, NBD-OPT-STARTTLS             options
+--   NBD-OPT-INFO, NBD-OPT-GO, NBD-OPT-STRUCTURED-REPLY, NBD-OPT-EXTENDED-HEADERS   options
+--   NBD-REP-ACK, NBD-REP-SERVER, NBD-REP-ERR-UNSUP                                 option replies
+--   NBD-FLAG-HAS-FLAGS, NBD-FLAG-READ-ONLY, NBD-FLAG-SEND-FLUSH                    an export's flags on the wire
+--   NBD-FLAG-ROTATIONAL, NBD-FLAG-SEND-TRIM, NBD-FLAG-SEND-RESIZE                  an export's flags on the wire
+--   NBD-CMD-READ, NBD-CMD-WRITE, NBD-CMD-DISC, NBD-CMD-FLUSH                       request types
+--   NBD-CMD-TRIM, NBD-CMD-WRITE-ZEROES, NBD-CMD-RESIZE                             request types
+--   NBD-EPERM, NBD-EINVAL, NBD-ENOSPC, NBD-ENOSYS                                  errors in a reply
 use Prim.Native.Nat.{ℕ}
 use mathlib.Core.List.{List, [], _∷_}
 

@@ -1,19 +1,21 @@
 -- What a lookup has to find, said without a set.
+--   nameOf rs k           the name of record k
 --   Named rs k name       record k is there, and that is its name
 --   First rs name k       record k is the first of that name
---   Long rs k len         record k is there, and its name is that long
 --   Step, narrowedUnder   name bytes, each under the table that is lent in its step
---   Stays steps k         every name byte found record k in its table, longer than the byte's place and with that byte there
+--   Long rs k len         record k is there, and its name is that long
+--   HasByte rs k i b      record k is there, and its name is longer than the place i and has the byte b there
+--   Stays i steps k       every name byte, from the place i on, found record k in its table, longer than the byte's place and with that byte there
 use Prim.Native.Nat.{ℕ, suc, _<_}
 use mathlib.Core.Path.{_≡_}
 use mathlib.Core.Bool.{Bool}
 use mathlib.Core.List.{List, [], _∷_}
 use lib.ListN.{length, getD}
-use Rattle.wire.specs.Table.{Record, blank}
+use Rattle.wire.specs.Table.{Record, noRecord}
 use Rattle.wire.specs.Lookup.{narrowed}
 
 abbrev pub nameOf : List Record → ℕ → List ℕ
-nameOf rs k = getD rs k blank .name
+nameOf rs k = getD rs k noRecord .name
 
 -- ---- one table
 pub record Named (rs : List Record) (k : ℕ) (name : List ℕ) : Type 0 where

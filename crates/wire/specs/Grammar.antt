@@ -1,6 +1,7 @@
 -- RFC 3629, section 4: the syntax of UTF-8 byte sequences, on whole lists.
---   Char l      l is one character (UTF8-char)
---   Octets l    l is a text (UTF8-octets)
+--   In lo hi b, Tail b   b is one of the bytes lo to hi; b is a tail byte (UTF8-tail)
+--   Char l               l is one character (UTF8-char)
+--   Octets l             l is a text (UTF8-octets)
 use Prim.Native.Nat.{ℕ, _≤_}
 use mathlib.Core.List.{List, [], _∷_, _++_}
 

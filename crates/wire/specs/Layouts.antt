@@ -1,12 +1,14 @@
 -- What stands on the wire, as lists of bytes, in the protocol text's order of fields.
 --   greeting                        the server's first 18 bytes
+--   optionReplyHead option type n   the fields of a reply to an option, before its data of n bytes
 --   optionReply option type data    a reply to an option
---   exportReply size flags zeroes   the reply to EXPORT_NAME; zeroes: whether the 124 follow
+--   zeros                           the 124 zero bytes
+--   exportReply size flags zeroes   the reply to EXPORT_NAME, with the 124 behind it if `zeroes` says so
 --   oldstyleHeader size flags       all that an old-style server sends before requests
 --   optionRequest option data       an option, from the client
 --   exportName name                 what our client sends in its handshake: its flags and one option
---   request flags type handle offset length
---   simpleReply error handle
+--   request flags type handle offset length   a request's 28 bytes
+--   simpleReply error handle        a reply's 16 bytes
 use Prim.Native.Nat.{ℕ}
 use mathlib.Core.Bool.{Bool}
 use mathlib.Core.List.{List, [], _++_}

@@ -8,3 +8,5 @@ pub mod Table
 pub mod Lookup
 pub mod Found
 pub mod Walk
+pub mod Cases
+pub mod Results

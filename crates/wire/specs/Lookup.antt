@@ -1,12 +1,15 @@
 -- Lookup by a name that arrives a byte at a time and is never stored: the set of the exports that still fit it, a Bool for each of the 32
 -- records that a table may have.
+--   startedIn k rs len    as `started`, for k records
 --   started rs len        "those whose names are that long"
---   has r i b             the record's name has that byte at the place i; hasAll: those bytes from there on
+--   has r i b             the record's name has that byte at the place i
 --   narrowed rs i b set   the byte b at the place i "clears each that differs there, lacks that byte or has no record in the table"
 --   narrowedBy rs i bs set   the bytes bs, from the place i on, one after the other
+--   later                 the place one further on, if there is one
 --   chosen set            "the lowest one left"
---   setOf w               the set that the code's 32-bit number w stands for: record k is its binary digit k; word: the number of a set
 --   chosenOf              the value that the code's answer stands for
+--   digit, word set       a binary digit; the number of a set, whose binary digit k is record k
+--   bits k w, setOf w     the set of the lowest k binary digits of w; the set that the code's 32-bit number w stands for
 use Prim.Native.Nat.{ℕ, zero, suc, _+_, _*_, _/_, _%_}
 use mathlib.Core.Bool.{Bool, true, false}
 use mathlib.Core.List.{List, [], _∷_}
@@ -28,10 +31,6 @@ started rs len = startedIn 32 rs len
 
 abbrev pub has : Record → ℕ → ℕ → Bool
 has r i b = both (ltb i (length (r .name))) (eqb (getD (r .name) i 0) b)
-
-abbrev pub hasAll : Record → ℕ → List ℕ → Bool
-hasAll r i [] = true
-hasAll r i (b ∷ bs) = both (has r i b) (hasAll r (suc i) bs)
 
 abbrev pub narrowed : List Record → ℕ → ℕ → List Bool → List Bool
 narrowed rs i b [] = []

@@ -1,6 +1,6 @@
 -- Arithmetic of the client's calls.
 --   clamped n   n, or the greatest 32-bit number (`clamp_to_u32`)
---   added p d   p plus a signed number, where there is an answer (`checked_add_i64`; 01: a seek "is refused if it leaves 0..2^64-1 or is by -2^63")
+--   added p d   p plus a signed number, where there is an answer (`checked_add_i64`; in 01 a seek "is refused if it leaves 0..2^64-1 or is by -2^63")
 --   sumOf       the value that the code's answer stands for
 use Prim.Native.Nat.{ℕ, suc, min, _+_, _-_, _^_}
 use mathlib.Core.Option.{Option, none, some}

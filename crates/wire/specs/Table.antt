@@ -1,12 +1,21 @@
 -- The export table, read as a list of records.
---   Record, blank   an export, as its record has it; zeros and no name
---   front l         what stands at the front of l: nothing, a record and what is behind it, or no record
+--   Record, noRecord   an export, as its record has it; zeros and no name
+--   exportOf r      what an export's session needs of its record
+--   Front, front l  what stands at the front of l: nothing, a record and what is behind it, or no record
+--   recordOf l      the record whose bytes, behind the length, are l
+--   fits l n, sized l n   whether the length n at the front of l is in range and not past the end; what stands there by it
+--   listed, recordsIn k   the record at the front, and those behind it; at most k records
 --   records t       the records of the table t
+--   recordFault n r   the number of a record's first fault, 23 to 25; 0 where it has none
+--   firstFault      the first of two faults
+--   judged, faults n k   the first fault from what stands at the front on; the same with at most k records more
 --   fault n t       the number of its first fault for an image of n bytes, 20 to 25; 0 where it is sound
---   wireFlags f     the flags that the server sends for an export with the table flags f
---   recordBytes, tableBytes   the bytes of a record and of a table
---   Sound n rs      01's rules on the records, for an image of n bytes
 --   faultOf         01's number for each answer of the code
+--   recordBytes, recordsBytes, tableBytes   the bytes of a record, of records and of a table
+--   SoundRecord n r, Each n rs   01's rules on a record, and on each of a list
+--   Sound n rs      01's rules on the records, for an image of n bytes
+--   bit k f, readOnly f   whether bit k of the table flags f is set; whether they say read-only
+--   wireFlags f     the flags that the server sends for an export with the table flags f
 use Prim.Native.Nat.{ℕ, zero, suc, _+_, _/_, _%_, _^_, _≤_, _<_}
 use mathlib.Core.Path.{_≡_}
 use mathlib.Core.Bool.{Bool, true}
@@ -17,6 +26,7 @@ use Rattle.machine.specs.Choice.{pick, both, between}
 use Rattle.wire.specs.Fields.{be, field, Bytes}
 use Rattle.wire.specs.Constants.{NBD-FLAG-HAS-FLAGS, NBD-FLAG-READ-ONLY, NBD-FLAG-SEND-FLUSH, NBD-FLAG-ROTATIONAL, NBD-FLAG-SEND-TRIM, NBD-FLAG-SEND-RESIZE}
 use Rattle.wire.specs.Utf8.{valid}
+use Rattle.wire.specs.declared.table.Export.{Export}
 use Rattle.wire.specs.declared.table.Checked.{Checked}
 use Rattle.wire.specs.declared.table.Checked.the-variants.{Sound as IsSound, Version, Length, Count, Window, Flags, Name}
 
@@ -26,8 +36,11 @@ pub record Record : Type 0 where
   pub flags : ℕ
   pub name : List ℕ
 
-abbrev pub blank : Record
-blank = record { start = 0; size = 0; flags = 0; name = [] }
+abbrev pub noRecord : Record
+noRecord = record { start = 0; size = 0; flags = 0; name = [] }
+
+abbrev pub exportOf : Record → Export
+exportOf r = record { start = r .start; size = r .size; flags = r .flags }
 
 -- ---- "records, each with its length first: two bytes L (17 to 4,113) counting what follows: start (8), size (8), flags (1), name (L-17 bytes)"
 pub data Front : Type 0 where
@@ -67,14 +80,14 @@ records t = recordsIn 32 (drop 1 t)
 abbrev pub recordFault : ℕ → Record → ℕ
 recordFault n r = pick (ltb (r .flags) 16) (pick (valid (r .name)) (pick (leb (r .start + r .size) n) 0 23) 25) 24
 
-abbrev pub first : ℕ → ℕ → ℕ
-first zero later = later
-first (suc f) later = suc f
+abbrev pub firstFault : ℕ → ℕ → ℕ
+firstFault zero later = later
+firstFault (suc f) later = suc f
 
 abbrev pub judged : ℕ → Front → (List ℕ → ℕ) → ℕ
 judged n nothing more = 0
 judged n broken more = 21
-judged n (entry r l) more = first (recordFault n r) (more l)
+judged n (entry r l) more = firstFault (recordFault n r) (more l)
 
 -- with at most k records more
 unfoldable pub faults : ℕ → ℕ → List ℕ → ℕ

@@ -1,7 +1,9 @@
 -- UTF-8 as an automaton on single bytes, by 01's list of leads and tails.
+--   lead b      the state after the first byte of a character
 --   next s b    the state after one byte more
 --   run s bs    the state after these bytes
 --   whole s     whether a text may end here: it is not cut inside a character, and nothing was bad
+--   valid bs    whether these bytes are a text, from its first byte to its last
 -- Grammar.antt has RFC 3629's own grammar on whole lists; that the two accept the same is `accepts` of proofs/Utf8Laws.antt.
 use Prim.Native.Nat.{ℕ}
 use mathlib.Core.Bool.{Bool, true, false}

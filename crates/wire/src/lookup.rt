@@ -3,14 +3,14 @@
 use crate::fields;
 use crate::table::Entry;
 use crate::table::Front;
-use crate::table::MOST;
+use crate::table::MAX_RECORDS;
 use crate::table::front_at;
 ghost use mathlib.Core.Path.{_≡_};
 ghost use Prim.Native.Nat.{_^_, _<_};
 ghost use lib.ListN.{length};
 ghost use Rattle.wire.specs.Table.{records};
-ghost use Rattle.wire.specs.Lookup.{hasAll, started, narrowedBy, chosen, chosenOf, setOf};
-ghost use Rattle.wire.specs.Walk.{recordAt, Inside, sieve, share, passed};
+ghost use Rattle.wire.specs.Lookup.{started, narrowedBy, chosen, chosenOf, setOf};
+ghost use Rattle.wire.specs.Walk.{hasAll, recordAt, Inside, sieve, share, passed};
 
 // The number of the export that fits, if one does.
 pub enum Chosen {
@@ -85,7 +85,7 @@ pub fn started(table: &[u8], len: usize) -> u32
 {
     let mut s = Sieve::new(0xFFFF_FFFF);
     let mut at = 1;
-    let mut left = MOST;
+    let mut left = MAX_RECORDS;
     while 0 < left {
         let f = front_at(table, at);
         match f {
@@ -111,7 +111,7 @@ pub fn narrowed(set: u32, table: &[u8], at: usize, part: &[u8]) -> u32
     }
     let mut s = Sieve::new(set);
     let mut place = 1;
-    let mut left = MOST;
+    let mut left = MAX_RECORDS;
     while 0 < left {
         let f = front_at(table, place);
         match f {

@@ -7,17 +7,18 @@ use crate::consts::NBD_FLAG_SEND_RESIZE;
 use crate::consts::NBD_FLAG_SEND_TRIM;
 use crate::fields;
 use crate::utf8::Utf8;
+use machine::tests::within;
 ghost use mathlib.Core.Path.{_≡_};
 ghost use Prim.Native.Nat.{_+_, _≤_};
 ghost use lib.ListN.{length, take, drop, getD};
 ghost use lib.Dec.{eqb, leb};
 ghost use Rattle.machine.specs.Choice.{pick};
-ghost use Rattle.wire.specs.Table.{entry, front, records, blank, judged, fault, faultOf, wireFlags};
+ghost use Rattle.wire.specs.Table.{entry, front, records, noRecord, judged, fault, faultOf, wireFlags, exportOf};
 ghost use Rattle.wire.specs.Utf8.{valid};
-ghost use Rattle.wire.specs.Walk.{recordAt, entryAt, Inside, FrontAt, exportOf, Goes};
+ghost use Rattle.wire.specs.Walk.{recordAt, entryAt, Inside, FrontAt, Continues};
 
 // A table has at most so many records.
-pub const MOST: usize = 32;
+pub const MAX_RECORDS: usize = 32;
 
 // What is wrong with a table first, if anything is: 01's numbers 20 to 25.
 pub enum Checked {
@@ -136,17 +137,16 @@ fn is_text(table: &[u8], e: Entry) -> bool
 }
 
 // Whether a window lies in an image of so many bytes.
-fn window_fits(x: Export, image: usize) -> bool
+pub fn window_fits(x: Export, image: usize) -> bool
     ensures { λ r. ⌜ r ≡ leb (x .start + x .size) image ⌝ }
 {
-    let n = image as u64;
-    x.size <= n && x.start <= n - x.size
+    within(x.start as usize, x.size as usize, image)
 }
 
 // The record e: its first fault, for an image of so many bytes, or what is behind it.
 fn record_judged(table: &[u8], e: Entry, image: usize) -> Judged
     requires { ⌜ Inside (now table) e ⌝ }
-    ensures { λ r. ⌜ Goes (now (table .entry)) r (judged image (entry (recordAt (now (table .entry)) e) (drop (e .next) (now (table .entry))))) ⌝ }
+    ensures { λ r. ⌜ Continues (now (table .entry)) r (judged image (entry (recordAt (now (table .entry)) e) (drop (e .next) (now (table .entry))))) ⌝ }
 {
     let x = e.export;
     if 16 <= x.flags {
@@ -165,7 +165,7 @@ fn record_judged(table: &[u8], e: Entry, image: usize) -> Judged
 
 // What the check of a table finds at a place.
 fn judged_at(table: &[u8], at: usize, image: usize) -> Judged
-    ensures { λ r. ⌜ Goes (now (table .entry)) r (judged image (front (drop at (now (table .entry))))) ⌝ }
+    ensures { λ r. ⌜ Continues (now (table .entry)) r (judged image (front (drop at (now (table .entry))))) ⌝ }
 {
     let f = front_at(table, at);
     match f {
@@ -186,7 +186,7 @@ pub fn check(table: &[u8], image: usize) -> Checked
         return Checked::Version;
     }
     let mut at = 1;
-    let mut left = MOST;
+    let mut left = MAX_RECORDS;
     while 0 < left {
         let j = judged_at(table, at, image);
         match j {
@@ -204,10 +204,10 @@ pub fn check(table: &[u8], image: usize) -> Checked
 
 // Window and flags of record k, all 0 where there is none.
 pub fn export_at(table: &[u8], k: usize) -> Export
-    ensures { λ r. ⌜ r ≡ exportOf (getD (records (now (table .entry))) k blank) ⌝ }
+    ensures { λ r. ⌜ r ≡ exportOf (getD (records (now (table .entry))) k noRecord) ⌝ }
 {
     let mut at = 1;
-    let mut left = MOST;
+    let mut left = MAX_RECORDS;
     let mut skip = k;
     while 0 < left {
         let f = front_at(table, at);
@@ -229,7 +229,7 @@ pub fn export_at(table: &[u8], k: usize) -> Export
 
 // Where there is no record.
 fn no_export() -> Export
-    ensures { λ r. ⌜ r ≡ exportOf blank ⌝ }
+    ensures { λ r. ⌜ r ≡ exportOf noRecord ⌝ }
 {
     Export {
         start: 0,

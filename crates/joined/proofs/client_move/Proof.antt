@@ -53,8 +53,8 @@ take-off-requires c κs =
     let l = length-take (c .before .before .before .before .before .before .before .before .before .before .before .least2 .result) (now (c .before .before .before .before .before .before .before .before .before .before .before .before .before .before .before .before .args .down)) in
     (omega (arith, w .0, l, c .before .before .before .before .before .before .before .before .before .before .before .least2 .ensures), omega (arith, c .before .before .before .before .before .before .before .before .before .before .before .before .least .ensures))
 
-add-t16 : tie.Need-add-t16
-add-t16 c =
+add-ups : tie.Need-add-ups
+add-ups c =
     let up = now (c .before .before .before .before .before .before .before .before .before .before .before .before .before .before .before .before .before .before .before .before .args .up) in
     let from = c .before .before .before .before .before .before .before .before .before .before .before .before .before .before .least3 .result in
     let more = c .before .before .before .before .before .before .before .before .before .before .before .before .before .least4 .result in
@@ -63,8 +63,8 @@ add-t16 c =
     let f : from + more < 2 ^ 64 = add-to (c .before .before .before .before .before .before .before .before .before .before .before .before .before) .fits in
     record { fits = omega (arith, k, f) }
 
-sub-t15 : tie.Need-sub-t15
-sub-t15 c =
+sub-downs : tie.Need-sub-downs
+sub-downs c =
     let w = within (c .before .before .before .before .before .before .before .before .before .before .step .ensures) in
     let l = length-take (c .before .before .before .before .before .before .before .before .before .before .before .before .before .before .before .before .least2 .result) (now (c .before .before .before .before .before .before .before .before .before .before .before .before .before .before .before .before .before .before .before .before .before .args .down)) in
     omega (arith, w .0, l, c .before .before .before .before .before .before .before .before .before .before .before .before .before .before .before .before .least2 .ensures)
@@ -81,7 +81,7 @@ same-length-3 c = search needs
 returns : tie.Need-returns
 returns c =
     let a = c .before .before .before .before .before .before .before .before .before .before .before .before .before .before .before .before .before .before .before .before .before .args in
-    let m = client-moved {up = now (a .up)} {room = a .room} (c .before .before .before .before .before .before .before .before .before .before .before .before .before .before .before .least3 .ensures) (rw (c .before .before .before .before .before .before .before .before .before .before .before .before .before .before .least4 .ensures)) (c .before .before .before .before .before .before .before .before .before .before .before .before .before .before .before .before .before .least .ensures) (c .before .before .before .before .before .before .before .before .before .before .before .before .before .before .before .before .least2 .ensures) (c .before .before .before .before .before .before .before .before .before .before .step .ensures) in
+    let m = client-moved {up = now (a .up)} {room = a .o .room} (c .before .before .before .before .before .before .before .before .before .before .before .before .before .before .before .least3 .ensures) (rw (c .before .before .before .before .before .before .before .before .before .before .before .before .before .before .least4 .ensures)) (c .before .before .before .before .before .before .before .before .before .before .before .before .before .before .before .before .before .least .ensures) (c .before .before .before .before .before .before .before .before .before .before .before .before .before .before .before .before .least2 .ensures) (c .before .before .before .before .before .before .before .before .before .before .step .ensures) in
     rw (c .before .before .before .before .take-off .ensures) m
 
 pub client-move-spec : {M : Type 1} → statement M
@@ -101,8 +101,8 @@ client-move-spec =
     part-step-end
     step-requires
     take-off-requires
-    add-t16
-    sub-t15
+    add-ups
+    sub-downs
     same-length
     same-length-2
     same-length-3

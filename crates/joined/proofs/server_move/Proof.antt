@@ -33,7 +33,7 @@ slice-reshare-prefix-step : tie.Need-slice-reshare-prefix-step
 slice-reshare-prefix-step c = search needs
 
 slice-aggregate-step : tie.Need-slice-aggregate-step
-slice-aggregate-step c = sym (length-take-le (c .before .before .before .before .least2 .result) (c .before .before .before .before .before .before .before .before .before .before .args .up .now) (omega (arith, c .before .before .before .before .least2 .ensures, c .before .before .before .before .before .least .ensures)))
+slice-aggregate-step c = sym (length-take-le (c .before .before .before .least2 .result) (c .before .before .before .before .before .before .before .before .before .args .up .now) (omega (arith, c .before .before .before .least2 .ensures, c .before .before .before .before .least .ensures)))
 
 sub-step : tie.Need-sub-step
 sub-step c = search needs
@@ -53,14 +53,14 @@ take-off-requires c κs =
     let l = length-take (c .before .before .before .before .before .before .before .before .before .before .before .least2 .result) (now (c .before .before .before .before .before .before .before .before .before .before .before .before .before .before .before .before .before .args .up)) in
     (omega (arith, w .0, l, c .before .before .before .before .before .before .before .before .before .before .before .least2 .ensures), omega (arith, c .before .before .before .before .before .before .before .before .before .before .before .before .least .ensures))
 
-sub-t17 : tie.Need-sub-t17
-sub-t17 c =
+sub-ups : tie.Need-sub-ups
+sub-ups c =
     let w = within (c .before .before .before .before .before .before .before .before .before .step .ensures) in
     let l = length-take (c .before .before .before .before .before .before .before .before .before .before .before .before .before .before .before .least2 .result) (now (c .before .before .before .before .before .before .before .before .before .before .before .before .before .before .before .before .before .before .before .before .before .args .up)) in
     omega (arith, w .0, l, c .before .before .before .before .before .before .before .before .before .before .before .before .before .before .before .least2 .ensures)
 
-add-t16 : tie.Need-add-t16
-add-t16 c =
+add-downs : tie.Need-add-downs
+add-downs c =
     let down = now (c .before .before .before .before .before .before .before .before .before .before .before .before .before .before .before .before .before .before .before .before .before .before .args .down) in
     let from = c .before .before .before .before .before .before .before .before .before .before .before .before .before .before .before .least3 .result in
     let more = c .before .before .before .before .before .before .before .before .before .before .before .before .before .before .least4 .result in
@@ -81,7 +81,7 @@ same-length-3 c = search needs
 returns : tie.Need-returns
 returns c =
     let a = c .before .before .before .before .before .before .before .before .before .before .before .before .before .before .before .before .before .before .before .before .before .before .args in
-    let m = server-moved {down = now (a .down)} {room = a .room} (c .before .before .before .before .before .before .before .before .before .before .before .before .before .before .before .least3 .ensures) (rw (c .before .before .before .before .before .before .before .before .before .before .before .before .before .before .least4 .ensures)) (c .before .before .before .before .before .before .before .before .before .before .before .before .before .before .before .before .before .least .ensures) (c .before .before .before .before .before .before .before .before .before .before .before .before .before .before .before .before .least2 .ensures) (c .before .before .before .before .before .before .before .before .before .before .step .ensures) in
+    let m = server-moved {down = now (a .down)} {room = a .o .room} (c .before .before .before .before .before .before .before .before .before .before .before .before .before .before .before .least3 .ensures) (rw (c .before .before .before .before .before .before .before .before .before .before .before .before .before .before .least4 .ensures)) (c .before .before .before .before .before .before .before .before .before .before .before .before .before .before .before .before .before .least .ensures) (c .before .before .before .before .before .before .before .before .before .before .before .before .before .before .before .before .least2 .ensures) (c .before .before .before .before .before .before .before .before .before .before .step .ensures) in
     rw (c .before .before .before .before .take-off .ensures) m
 
 pub server-move-spec : {M : Type 1} → statement M
@@ -101,8 +101,8 @@ server-move-spec =
     part-step-end
     step-requires
     take-off-requires
-    sub-t17
-    add-t16
+    sub-ups
+    add-downs
     same-length
     same-length-2
     same-length-3

@@ -44,8 +44,8 @@ takes-none-requires-2 c κs = search needs
 enum-known-p-4 : tie.Need-enum-known-p-4
 enum-known-p-4 c = search needs
 
-take-terms-requires : tie.Need-take-terms-requires
-take-terms-requires c κs = let s = rw (c .before .p4 .given .1) at (c .before .before .before .before .pre) in (taken-below (c .before .before .before .before .args .head) _ _ (omega (arith, sixteen (c .before .before .before .before), terms-most (c .before .p4 .given .0 .0))) (s .1), s .0)
+take-size-and-flags-requires : tie.Need-take-size-and-flags-requires
+take-size-and-flags-requires c κs = let s = rw (c .before .p4 .given .1) at (c .before .before .before .before .pre) in (taken-below (c .before .before .before .before .args .head) _ _ (omega (arith, sixteen (c .before .before .before .before), terms-most (c .before .p4 .given .0 .0))) (s .1), s .0)
 
 enum-known-p-5 : tie.Need-enum-known-p-5
 enum-known-p-5 c = search needs
@@ -69,7 +69,7 @@ returns-5 : tie.Need-returns-5
 returns-5 c = λ m. rw (c .takes-none2 .ensures) (absorbs-idle (rw (c .before .enum-told2 .given .1)))
 
 returns-6 : tie.Need-returns-6
-returns-6 c = λ m. rw (c .before .before .p4 .given .1) (c .take-terms .ensures m)
+returns-6 c = λ m. rw (c .before .before .p4 .given .1) (c .take-size-and-flags .ensures m)
 
 returns-7 : tie.Need-returns-7
 returns-7 c = λ m. rw (c .before .before .p5 .given .1) (c .take-filler .ensures m)
@@ -89,7 +89,7 @@ absorb-spec =
     enum-told-2
     takes-none-requires-2
     enum-known-p-4
-    take-terms-requires
+    take-size-and-flags-requires
     enum-known-p-5
     take-filler-requires
     returns

@@ -15,7 +15,7 @@ offered-requires : tie.Need-offered-requires
 offered-requires c κs = search needs
 
 slice-aggregate-step : tie.Need-slice-aggregate-step
-slice-aggregate-step c = sym (length-take-le _ _ (rw (c .before .before .offered .ensures) (offered-within (view (c .before .before .before .before .before .before .args .s)) (length (c .before .before .before .before .before .before .args .input .now)))))
+slice-aggregate-step c = sym (length-take-le _ _ (rw (c .before .offered .ensures) (offered-within (view (c .before .before .before .before .before .args .s)) (length (c .before .before .before .before .before .args .input .now)))))
 
 slice-aggregate-step-2 : tie.Need-slice-aggregate-step-2
 slice-aggregate-step-2 c = search needs

@@ -15,16 +15,16 @@ slice-aggregate-gather c = search needs
 gather-requires : tie.Need-gather-requires
 gather-requires c κs = search needs
 
-add-flagged : tie.Need-add-flagged
-add-flagged c = search needs
+add-judge-flags : tie.Need-add-judge-flags
+add-judge-flags c = search needs
 
-flagged-requires : tie.Need-flagged-requires
-flagged-requires c κs = search needs
+judge-flags-requires : tie.Need-judge-flags-requires
+judge-flags-requires c κs = search needs
 
 returns : tie.Need-returns
-returns c = λ t m. flags-leaf t (long (c .before .before .before .before .before)) (c .before .before .before .before .before .pre .0) (c .before .before .before .before .before .pre .1) (c .before .before .gather .ensures) (c .flagged .ensures)
+returns c = λ t m. flags-leaf t (long (c .before .before .before .before .before)) (c .before .before .before .before .before .pre .0) (c .before .before .before .before .before .pre .1) (c .before .before .gather .ensures) (c .judge-flags .ensures)
 
 pub take-flags-spec : {M : Type 1} → statement M
 take-flags-spec =
     tie.close
-    (tie.spec slice-aggregate-gather gather-requires add-flagged flagged-requires returns)
+    (tie.spec slice-aggregate-gather gather-requires add-judge-flags judge-flags-requires returns)

@@ -4,14 +4,14 @@ use borrow.Author.Needs.{needs}
 use Rattle.server.proofs.ranges.part.Statement.{statement}
 use Rattle.server.proofs.ranges.part.Tie as tie
 
-fits-requires : tie.Need-fits-requires
-fits-requires c κs = search needs
+within-requires : tie.Need-within-requires
+within-requires c κs = search needs
 
 both-requires : tie.Need-both-requires
 both-requires c κs = search needs
 
 returns : tie.Need-returns
-returns c = c .both .ensures ∙ rw (c .before .fits2 .ensures)
+returns c = c .both .ensures ∙ rw (c .before .within .ensures)
 
 pub part-spec : {M : Type 1} → statement M
-part-spec = tie.close (tie.spec fits-requires both-requires returns)
+part-spec = tie.close (tie.spec within-requires both-requires returns)

@@ -26,8 +26,8 @@ enum-known-p-3 c = search needs
 enum-known-p-4 : tie.Need-enum-known-p-4
 enum-known-p-4 c = search needs
 
-fits-requires : tie.Need-fits-requires
-fits-requires c κs = search needs
+within-requires : tie.Need-within-requires
+within-requires c κs = search needs
 
 both-requires : tie.Need-both-requires
 both-requires c κs = search needs
@@ -78,7 +78,7 @@ returns-3 : tie.Need-returns-3
 returns-3 c = rw (c .before .p3 .given .1) (head-short (c .before .before .before .args .head) (c .before .p3 .given .0 .1 .0) 16 (long (c .before .before .before)) (omega arith))
 
 returns-4 : tie.Need-returns-4
-returns-4 c = c .both .ensures ∙ rw (c .before .fits2 .ensures, c .before .before .before .p4 .given .1, length-bits 32 (c .before .before .before .p4 .given .0 .1 .0))
+returns-4 c = c .both .ensures ∙ rw (c .before .within .ensures, c .before .before .before .p4 .given .1, length-bits 32 (c .before .before .before .p4 .given .0 .1 .0))
 
 returns-5 : tie.Need-returns-5
 returns-5 c = c .passed .ensures ∙ rw (c .before .before .p5 .given .1)
@@ -104,7 +104,7 @@ ranged-shaking-spec =
     enum-known-p-2
     enum-known-p-3
     enum-known-p-4
-    fits-requires
+    within-requires
     both-requires
     enum-known-p-5
     passed-requires

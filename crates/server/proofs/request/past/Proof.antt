@@ -1,24 +1,31 @@
--- The sum is tested by a difference, which cannot wrap.
-use Prim.Native.Nat.{_+_, _<_}
-use mathlib.Core.Path.{sym}
+-- Past the end is not within it.
+use Prim.Native.Nat.{ℕ, _+_}
+use mathlib.Core.Path.{_≡_, refl, sym, ap, _∙_}
+use mathlib.Core.Bool.{Bool, true, false, not}
 use native.Mathlib.Omega.{arith}
-use borrow.Author.Tests.{lt-ltb}
+use borrow.Author.Tests.{lt-ltb, le-ltb, leb-true, leb-false}
 use borrow.Author.Needs.{needs}
-use Rattle.server.proofs.Past.{past-sub}
+use lib.Dec.{ltb, leb}
 use Rattle.server.proofs.request.past.Statement.{statement}
 use Rattle.server.proofs.request.past.Tie as tie
 
-cast-len : tie.Need-cast-len
-cast-len c = search needs
+beyond : (a n : ℕ) → not (leb a n) ≡ ltb n a
+beyond a n = go (leb a n) refl
+  where
+    go : (b : Bool) → leb a n ≡ b → not b ≡ ltb n a
+    go true e = sym (le-ltb n a (leb-true a n e))
+    go false e = sym (lt-ltb n a (leb-false a n e))
+
+cast-within : tie.Need-cast-within
+cast-within c = search needs
+
+within-requires : tie.Need-within-requires
+within-requires c κs = search needs
 
 returns : tie.Need-returns
-returns c = past-sub _ _ _ (c .before .before .if1 .taken)
-
-returns-2 : tie.Need-returns-2
-returns-2 c =
-    let a = c .before .before .before .args in
-    let h : a .e .size < a .r .offset + a .r .len = omega (arith, c .if1 .left) in
-    sym (lt-ltb _ _ h)
+returns c =
+    let a = c .before .before .args in
+    ap not (c .within .ensures) ∙ beyond (a .r .offset + a .r .len) (a .e .size)
 
 pub past-spec : {M : Type 1} → statement M
-past-spec = tie.close (tie.spec cast-len returns returns-2)
+past-spec = tie.close (tie.spec cast-within within-requires returns)

@@ -8,7 +8,8 @@ use lib.ListN.{length, drop}
 use denote.Ref.{now}
 use borrow.Author.Needs.{needs}
 use Rattle.wire.specs.Table.{Record, recordsIn, records}
-use Rattle.wire.specs.Lookup.{hasAll, narrowedBy, word, setOf}
+use Rattle.wire.specs.Lookup.{narrowedBy, word, setOf}
+use Rattle.wire.specs.Walk.{hasAll}
 use Rattle.wire.proofs.Places.{found-inside}
 use Rattle.wire.proofs.Sieves.{sieved, sieved-lt, sieved-set, narrowed-sieved, narrowed-none, Sieving, sieve-start, table-turn, table-fits, table-none, table-out}
 use Rattle.wire.proofs.lookup.narrowed.Statement.{statement}

@@ -5,15 +5,15 @@ use native.Mathlib.Omega.{arith}
 use lib.ListN.{getD, drop}
 use denote.Ref.{now}
 use borrow.Author.Needs.{needs}
-use Rattle.wire.specs.Table.{blank, recordsIn, records}
-use Rattle.wire.specs.Walk.{recordAt, exportOf}
+use Rattle.wire.specs.Table.{noRecord, recordsIn, records, exportOf}
+use Rattle.wire.specs.Walk.{recordAt}
 use Rattle.wire.proofs.Places.{found, found-none}
 use Rattle.wire.proofs.Walks.{records-out, records-turn, getD-first, getD-later}
 use Rattle.wire.proofs.table.export_at.Statement.{statement}
 use Rattle.wire.proofs.table.export_at.Tie as tie
 
 abbrev Inv-loop : tie.InvT-loop
-Inv-loop table k at₀ left₀ skip₀ at left skip = getD (recordsIn left (drop at table)) skip blank ≡ getD (records table) k blank
+Inv-loop table k at₀ left₀ skip₀ at left skip = getD (recordsIn left (drop at table)) skip noRecord ≡ getD (records table) k noRecord
 
 abbrev μ-loop : tie.MeasureT-loop
 μ-loop table k at₀ left₀ skip₀ at left skip = left
@@ -57,7 +57,7 @@ returns-3 c =
     let e = c .before .before .before .f .given in
     let turn = records-turn (l .left) (drop (l .at) t) (found (c .before .before .before .before .before .front-at .ensures) _ (e .1)) (omega arith) in
     let rest = recordsIn (l .left - 1) (drop (e .0 .0 .next) t) in
-    ap exportOf (rw (turn, getD-first (recordAt t (e .0 .0)) rest (l .skip) blank (c .before .if1 .taken)) at (l .inv))
+    ap exportOf (rw (turn, getD-first (recordAt t (e .0 .0)) rest (l .skip) noRecord (c .before .if1 .taken)) at (l .inv))
 
 sub-skip : tie.Need-sub-skip Inv-loop μ-loop
 sub-skip c = search needs
@@ -75,7 +75,7 @@ loop-again c =
     let e = c .before .before .f .given in
     let turn = records-turn (l .left) (drop (l .at) t) (found (c .before .before .before .before .front-at .ensures) _ (e .1)) (omega arith) in
     let rest = recordsIn (l .left - 1) (drop (e .0 .0 .next) t) in
-    rw (turn, getD-later (recordAt t (e .0 .0)) rest (l .skip) blank (c .if1 .left)) at (l .inv)
+    rw (turn, getD-later (recordAt t (e .0 .0)) rest (l .skip) noRecord (c .if1 .left)) at (l .inv)
 
 no-export-requires-3 : tie.Need-no-export-requires-3 Inv-loop μ-loop
 no-export-requires-3 c κs = search needs

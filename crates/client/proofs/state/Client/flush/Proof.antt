@@ -4,8 +4,8 @@ use borrow.Author.Needs.{needs}
 use Rattle.client.proofs.state.Client.flush.Statement.{statement}
 use Rattle.client.proofs.state.Client.flush.Tie as tie
 
-may-requires : tie.Need-may-requires
-may-requires c κs = search needs
+call-check-requires : tie.Need-call-check-requires
+call-check-requires c κs = search needs
 
 enum-known-m : tie.Need-enum-known-m
 enum-known-m c = search needs
@@ -20,16 +20,16 @@ refused-requires : tie.Need-refused-requires
 refused-requires c κs = search needs
 
 returns : tie.Need-returns
-returns c = c .opened .ensures ∙ rw (← c .before .before .before .before .may .ensures, c .before .before .m .given .1)
+returns c = c .opened .ensures ∙ rw (← c .before .before .before .before .call-check .ensures, c .before .before .m .given .1)
 
 returns-2 : tie.Need-returns-2
-returns-2 c = c .refused .ensures ∙ rw (← c .before .before .before .before .may .ensures, c .before .before .m2 .given .1)
+returns-2 c = c .refused .ensures ∙ rw (← c .before .before .before .before .call-check .ensures, c .before .before .m2 .given .1)
 
 pub flush-spec : {M : Type 1} → statement M
 flush-spec =
     tie.close
     (tie.spec
-    may-requires
+    call-check-requires
     enum-known-m
     opened-requires
     enum-known-m-2

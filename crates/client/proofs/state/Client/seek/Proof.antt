@@ -4,8 +4,8 @@ use borrow.Author.Needs.{needs}
 use Rattle.client.proofs.state.Client.seek.Statement.{statement}
 use Rattle.client.proofs.state.Client.seek.Tie as tie
 
-may-requires : tie.Need-may-requires
-may-requires c κs = search needs
+call-check-requires : tie.Need-call-check-requires
+call-check-requires c κs = search needs
 
 enum-known-m : tie.Need-enum-known-m
 enum-known-m c = search needs
@@ -35,19 +35,19 @@ refused-requires-2 : tie.Need-refused-requires-2
 refused-requires-2 c κs = search needs
 
 returns : tie.Need-returns
-returns c = c .ready .ensures ∙ rw (← c .before .before .before .before .before .before .before .before .before .may .ensures, c .before .before .before .before .before .before .before .m .given .1, ← c .before .before .before .before .before .sought .ensures, c .before .before .before .to .given .1, c .before .positioned .ensures)
+returns c = c .ready .ensures ∙ rw (← c .before .before .before .before .before .before .before .before .before .call-check .ensures, c .before .before .before .before .before .before .before .m .given .1, ← c .before .before .before .before .before .sought .ensures, c .before .before .before .to .given .1, c .before .positioned .ensures)
 
 returns-2 : tie.Need-returns-2
-returns-2 c = c .refused .ensures ∙ rw (← c .before .before .before .before .before .before .before .may .ensures, c .before .before .before .before .before .m .given .1, ← c .before .before .before .sought .ensures, c .before .enum-told .given .1)
+returns-2 c = c .refused .ensures ∙ rw (← c .before .before .before .before .before .before .before .call-check .ensures, c .before .before .before .before .before .m .given .1, ← c .before .before .before .sought .ensures, c .before .enum-told .given .1)
 
 returns-3 : tie.Need-returns-3
-returns-3 c = c .refused2 .ensures ∙ rw (← c .before .before .before .before .may .ensures, c .before .before .m2 .given .1)
+returns-3 c = c .refused2 .ensures ∙ rw (← c .before .before .before .before .call-check .ensures, c .before .before .m2 .given .1)
 
 pub seek-spec : {M : Type 1} → statement M
 seek-spec =
     tie.close
     (tie.spec
-    may-requires
+    call-check-requires
     enum-known-m
     sought-requires
     enum-known-to

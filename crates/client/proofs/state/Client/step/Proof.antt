@@ -8,7 +8,7 @@ use Rattle.client.specs.View.{view}
 use Rattle.client.specs.Contract.{numberOf, valuesOf}
 use Rattle.client.proofs.Numbers.{numbered, valued}
 use Rattle.client.proofs.Refusals.{accepted}
-use Rattle.client.proofs.Sound.{sound}
+use Rattle.client.proofs.Kept.{sound}
 use Rattle.client.proofs.Tidy.{used-fits}
 use Rattle.client.proofs.state.Client.step.Statement.{statement}
 use Rattle.client.proofs.state.Client.step.Tie as tie
@@ -30,11 +30,11 @@ returns c =
 advance-requires : tie.Need-advance-requires
 advance-requires c κs = accepted (length (now (c .before .before .before .before .before .before .before .args .lent))) (c .before .before .before .before .before .before .before .args .self) (sym (c .before .before .before .refusal .ensures) ∙ c .before .before .if1 .left)
 
-told-requires : tie.Need-told-requires
-told-requires c κs = search needs
+outcome-of-requires : tie.Need-outcome-of-requires
+outcome-of-requires c κs = search needs
 
-rested-requires : tie.Need-rested-requires
-rested-requires c κs =
+canonical-requires : tie.Need-canonical-requires
+canonical-requires c κs =
     let a = c .before .before .before .before .before .before .before .before .before .before .before .before .before .before .args in
     let e = c .before .before .before .before .before .before .advance .result .state in
     let fine = accepted (length (now (a .lent))) (a .self) (sym (c .before .before .before .before .before .before .before .before .before .before .refusal .ensures) ∙ c .before .before .before .before .before .before .before .before .before .if1 .left) in
@@ -50,13 +50,13 @@ returns-2 : tie.Need-returns-2
 returns-2 c =
     let end = c .before .before .before .before .before .before .before .advance .result .state in
     let fine = sym (c .before .before .before .before .before .before .before .before .before .before .before .refusal .ensures) ∙ c .before .before .before .before .before .before .before .before .before .before .if1 .left in
-    let told = c .before .told .ensures (end .head) in
+    let told = c .before .outcome-of .ensures (end .head) in
     record {
       refuses = λ z. absurd (z fine);
       accepts = λ _. record {
         place = view end;
         steps = c .before .before .before .before .before .before .before .advance .ensures;
-        state = c .rested .ensures;
+        state = c .canonical .ensures;
         outcome = told;
         number = ap numberOf told ∙ numbered (view end);
         values = ap valuesOf told ∙ valued (view end);
@@ -70,8 +70,8 @@ step-spec =
     refusal-requires
     returns
     advance-requires
-    told-requires
-    rested-requires
+    outcome-of-requires
+    canonical-requires
     same-length
     same-length-2
     returns-2)

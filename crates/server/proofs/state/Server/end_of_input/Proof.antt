@@ -15,8 +15,8 @@ returns c = closing (rw (sym (c .before .in-range .ensures) ∙ not-true _ (c .i
 enum-known-p : tie.Need-enum-known-p
 enum-known-p c = search needs
 
-owes-shaking-requires : tie.Need-owes-shaking-requires
-owes-shaking-requires c κs = search needs
+owes-requires : tie.Need-owes-requires
+owes-requires c κs = search needs
 
 cut-off-requires : tie.Need-cut-off-requires
 cut-off-requires c κs = search needs
@@ -24,8 +24,8 @@ cut-off-requires c κs = search needs
 enum-known-p-2 : tie.Need-enum-known-p-2
 enum-known-p-2 c = search needs
 
-owes-serving-requires : tie.Need-owes-serving-requires
-owes-serving-requires c κs = search needs
+owes-requires-2 : tie.Need-owes-requires-2
+owes-requires-2 c κs = search needs
 
 cut-off-requires-2 : tie.Need-cut-off-requires-2
 cut-off-requires-2 c κs = search needs
@@ -34,10 +34,10 @@ enum-known-p-3 : tie.Need-enum-known-p-3
 enum-known-p-3 c = search needs
 
 returns-2 : tie.Need-returns-2
-returns-2 c = closing (c .cut-off .ensures ∙ rw (sym (c .before .before .before .before .before .before .in-range .ensures) ∙ not-false _ (c .before .before .before .before .before .if1 .left), c .before .owes-shaking .ensures (c .before .before .before .before .before .before .before .args .self .head), c .before .before .before .p .given .1))
+returns-2 c = closing (c .cut-off .ensures ∙ rw (sym (c .before .before .before .before .before .before .in-range .ensures) ∙ not-false _ (c .before .before .before .before .before .if1 .left), c .before .owes .ensures (c .before .before .before .before .before .before .before .args .self .head), c .before .before .before .p .given .1))
 
 returns-3 : tie.Need-returns-3
-returns-3 c = closing (c .cut-off2 .ensures ∙ rw (sym (c .before .before .before .before .before .before .in-range .ensures) ∙ not-false _ (c .before .before .before .before .before .if1 .left), c .before .owes-serving .ensures (c .before .before .before .before .before .before .before .args .self .head) (c .before .before .before .p2 .given .0 .0), c .before .before .before .p2 .given .1))
+returns-3 c = closing (c .cut-off2 .ensures ∙ rw (sym (c .before .before .before .before .before .before .in-range .ensures) ∙ not-false _ (c .before .before .before .before .before .if1 .left), c .before .owes2 .ensures (c .before .before .before .before .before .before .before .args .self .head) (c .before .before .before .p2 .given .0 .0), c .before .before .before .p2 .given .1))
 
 returns-4 : tie.Need-returns-4
 returns-4 c = closing (rw (sym (c .before .before .before .before .in-range .ensures) ∙ not-false _ (c .before .before .before .if1 .left), c .before .p3 .given .1))
@@ -49,10 +49,10 @@ end-of-input-spec =
     in-range-requires
     returns
     enum-known-p
-    owes-shaking-requires
+    owes-requires
     cut-off-requires
     enum-known-p-2
-    owes-serving-requires
+    owes-requires-2
     cut-off-requires-2
     enum-known-p-3
     returns-2

@@ -30,14 +30,14 @@ returns c =
 advance-requires : tie.Need-advance-requires
 advance-requires c κs = accepted (now (c .before .before .before .before .before .before .before .before .args .table)) (length (now (c .before .before .before .before .before .before .before .before .args .image))) (c .before .before .before .before .before .before .before .before .args .self) (sym (c .before .before .before .refusal .ensures) ∙ c .before .before .if1 .left)
 
-tidied-requires : tie.Need-tidied-requires
-tidied-requires c κs =
+canonical-requires : tie.Need-canonical-requires
+canonical-requires c κs =
     let s = c .before .before .before .before .advance .result .state in
     let g = accepted (now (c .before .before .before .before .before .before .before .before .before .before .before .before .before .args .table)) (length (now (c .before .before .before .before .before .before .before .before .before .before .before .before .before .args .image))) (c .before .before .before .before .before .before .before .before .before .before .before .before .before .args .self) (sym (c .before .before .before .before .before .before .before .before .refusal .ensures) ∙ c .before .before .before .before .before .before .before .if1 .left) in
     used-fits (s .head) (long (c .before .before .before .before)) (s .phase) (next-good (c .before .before .before .before .advance .ensures .goes .moves) g .within)
 
-told-requires : tie.Need-told-requires
-told-requires c κs = search needs
+outcome-of-requires : tie.Need-outcome-of-requires
+outcome-of-requires c κs = search needs
 
 same-length : tie.Need-same-length
 same-length c = search needs
@@ -47,12 +47,12 @@ same-length-2 c = search needs
 
 returns-2 : tie.Need-returns-2
 returns-2 c =
-    let t = c .before .tidied .ensures in
+    let t = c .before .canonical .ensures in
     let fine = sym (c .before .before .before .before .before .before .before .before .before .before .refusal .ensures) ∙ c .before .before .before .before .before .before .before .before .before .if1 .left in
     let v = stands-for (view (c .before .before .before .before .before .before .advance .result .state)) (next-good (c .before .before .before .before .before .before .advance .ensures .goes .moves) (accepted (now (c .before .before .before .before .before .before .before .before .before .before .before .before .before .before .before .args .table)) (length (now (c .before .before .before .before .before .before .before .before .before .before .before .before .before .before .before .args .image))) (c .before .before .before .before .before .before .before .before .before .before .before .before .before .before .before .args .self) fine) .within) t in
     record {
       refuses = λ z. absurd (z fine);
-      accepts = λ _. record { steps = rw v (c .before .before .before .before .before .before .advance .ensures); one-struct = t ∙ ap code (sym v); outcome = c .told .ensures; number = ap numberOf (c .told .ensures) ∙ numbered (view (c .before .tidied .result)) };
+      accepts = λ _. record { steps = rw v (c .before .before .before .before .before .before .advance .ensures); one-struct = t ∙ ap code (sym v); outcome = c .outcome-of .ensures; number = ap numberOf (c .outcome-of .ensures) ∙ numbered (view (c .before .canonical .result)) };
     }
 
 pub step-spec : {M : Type 1} → statement M
@@ -62,8 +62,8 @@ step-spec =
     refusal-requires
     returns
     advance-requires
-    tidied-requires
-    told-requires
+    canonical-requires
+    outcome-of-requires
     same-length
     same-length-2
     returns-2)
