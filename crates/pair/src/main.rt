@@ -5,6 +5,7 @@ mod print;
 mod schedule;
 mod script;
 
+use ends::After;
 use ends::Ends;
 use script::Call;
 ghost use mathlib.Core.Path.{_≡_};
@@ -16,23 +17,23 @@ fn closes(
     e: Ends,
     k: Call,
     lent: &mut [u8],
-    image: &mut [u8; 64],
+    image: &mut [u8],
     up: &mut [u8],
     down: &mut [u8],
 ) -> Ends {
-    let mut made = e;
-    let c = made.client;
+    let c = e.client;
     let r = script::make(k, c, lent);
-    made.client = r.state;
-    made.outcome = r.outcome;
-    let closed = ends::close(made, lent, image, up, down);
+    let client = r.state;
+    let outcome = r.outcome;
+    let ends = e.with_client(client);
+    let closed = ends::close(After { ends, outcome }, lent, image, up, down);
     let o = closed.outcome;
     print::call(k, o, lent);
-    closed
+    closed.ends
 }
 
 // The i-th call.
-fn call(e: Ends, i: u8, image: &mut [u8; 64], up: &mut [u8], down: &mut [u8]) -> Ends {
+fn call(e: Ends, i: u8, image: &mut [u8], up: &mut [u8], down: &mut [u8]) -> Ends {
     let k = script::nth(i);
     let n = script::lent(k);
     let mut buffer = [0u8; 40];
@@ -40,7 +41,7 @@ fn call(e: Ends, i: u8, image: &mut [u8; 64], up: &mut [u8], down: &mut [u8]) ->
     closes(e, k, &mut buffer[0..n], image, up, down)
 }
 
-fn calls(e: Ends, image: &mut [u8; 64], up: &mut [u8], down: &mut [u8]) -> Ends {
+fn calls(e: Ends, image: &mut [u8], up: &mut [u8], down: &mut [u8]) -> Ends {
     let mut ends = e;
     let mut i = 0;
     while i < script::CALLS {
@@ -70,7 +71,7 @@ fn checksum(bytes: &[u8]) -> u64 {
 }
 
 // The image after a run, and the bytes carried.
-fn shown(e: Ends, image: &[u8; 64]) {
+fn shown(e: Ends, image: &[u8]) {
     print::text(b"image");
     print::bytes(image);
     print::numbers(b" #\n", checksum(image), 0, 0, 0);

@@ -7,7 +7,7 @@ use Rattle.pair.proofs.calls.Statement.{statement}
 use Rattle.pair.proofs.calls.Tie as tie
 
 abbrev Inv-loop : tie.InvT-loop
-Inv-loop image₀ up₀ down₀ ends₀ i₀ image up down ends i = (i ≤ 16) × (length up ≡ length up₀) × (length down ≡ length down₀)
+Inv-loop image₀ up₀ down₀ ends₀ i₀ image up down ends i = (i ≤ 16) × (length up ≡ length up₀) × (length down ≡ length down₀) × (length image ≡ length image₀)
 
 abbrev μ-loop : tie.MeasureT-loop
 μ-loop image₀ up₀ down₀ ends₀ i₀ image up down ends i = 16 - i
@@ -33,6 +33,9 @@ same-length c = search needs
 same-length-2 : tie.Need-same-length-2 Inv-loop μ-loop
 same-length-2 c = search needs
 
+same-length-3 : tie.Need-same-length-3 Inv-loop μ-loop
+same-length-3 c = search needs
+
 returns : tie.Need-returns Inv-loop μ-loop
 returns c = search needs
 
@@ -49,4 +52,5 @@ calls-spec =
     loop-again
     same-length
     same-length-2
+    same-length-3
     returns)

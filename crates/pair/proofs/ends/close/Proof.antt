@@ -6,7 +6,7 @@ use Rattle.pair.proofs.ends.close.Statement.{statement}
 use Rattle.pair.proofs.ends.close.Tie as tie
 
 abbrev Inv-loop : tie.InvT-loop
-Inv-loop lent₀ image₀ up₀ down₀ now₀ left₀ lent image up down now left = (length lent ≡ length lent₀) × (length up ≡ length up₀) × (length down ≡ length down₀)
+Inv-loop lent₀ image₀ up₀ down₀ now₀ left₀ lent image up down now left = (length lent ≡ length lent₀) × (length up ≡ length up₀) × (length down ≡ length down₀) × (length image ≡ length image₀)
 
 abbrev μ-loop : tie.MeasureT-loop
 μ-loop lent₀ image₀ up₀ down₀ now₀ left₀ lent image up down now left = left
@@ -38,17 +38,23 @@ same-length-2 c = search needs
 same-length-3 : tie.Need-same-length-3 Inv-loop μ-loop
 same-length-3 c = search needs
 
-returns : tie.Need-returns Inv-loop μ-loop
-returns c = search needs
-
 same-length-4 : tie.Need-same-length-4 Inv-loop μ-loop
 same-length-4 c = search needs
+
+returns : tie.Need-returns Inv-loop μ-loop
+returns c = search needs
 
 same-length-5 : tie.Need-same-length-5 Inv-loop μ-loop
 same-length-5 c = search needs
 
 same-length-6 : tie.Need-same-length-6 Inv-loop μ-loop
 same-length-6 c = search needs
+
+same-length-7 : tie.Need-same-length-7 Inv-loop μ-loop
+same-length-7 c = search needs
+
+same-length-8 : tie.Need-same-length-8 Inv-loop μ-loop
+same-length-8 c = search needs
 
 returns-2 : tie.Need-returns-2 Inv-loop μ-loop
 returns-2 c = search needs
@@ -68,8 +74,10 @@ close-spec =
     same-length
     same-length-2
     same-length-3
-    returns
     same-length-4
+    returns
     same-length-5
     same-length-6
+    same-length-7
+    same-length-8
     returns-2)
