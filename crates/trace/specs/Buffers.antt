@@ -1,4 +1,5 @@
 -- What lies where in the buffers: the payload and the table in two thirds of `still`, the image and the slice in the two halves of `lent`.
+--   Long      the three buffers have their lengths
 --   Within    a record's payload is not too long
 --   Lent      what a host lends lies in its buffers
 --   LiesIn    a part lies in `lent`, and has a copy's length
@@ -6,7 +7,10 @@
 --   Room      a step's room and input lie in their buffers
 --   Fits      so does all that a command asks for
 --   MadeIn    a step gave no more than its room, and left what is lent in its buffers
-use Prim.Native.Nat.{_+_, _≤_}
+use Prim.Native.Nat.{ℕ, _+_, _≤_}
+use mathlib.Core.Path.{_≡_}
+use mathlib.Core.List.{List}
+use lib.ListN.{length}
 use Rattle.trace.specs.declared.record.Record.{Record}
 use Rattle.trace.specs.declared.record.Record.the-variants.{Of, Bad, Over}
 use Rattle.trace.specs.declared.host.Host.{Host}
@@ -17,6 +21,9 @@ use Rattle.trace.specs.declared.command.Change.the-variants as change
 use Rattle.trace.specs.declared.command.Step.{Step}
 use Rattle.trace.specs.declared.command.Command.{Command}
 use Rattle.trace.specs.declared.command.Command.the-variants as command
+
+abbrev pub Long : List ℕ → List ℕ → List ℕ → Type 0
+Long still lent room = (length still ≡ 786432) × (length lent ≡ 524288) × (length room ≡ 262144)
 
 abbrev pub Within : Record → Type 0
 Within (Of letter size) = size ≤ 262144

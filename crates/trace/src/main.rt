@@ -15,12 +15,14 @@ use host::ROOM;
 use host::STILL;
 use record::Record;
 use room::Made;
+ghost use mathlib.Core.Path.{_≡_};
 ghost use Prim.Native.Nat.{_≤_};
-ghost use Rattle.trace.specs.Buffers.{Fits, Lent, MadeIn, Room};
+ghost use lib.ListN.{length};
+ghost use Rattle.trace.specs.Buffers.{Fits, Lent, Long, MadeIn, Room};
 
 // A step of the client or of the server.
-fn made(h: Host, k: Step, still: &[u8; STILL], lent: &mut [u8; LENT], room: &mut [u8; ROOM]) -> Made
-    requires { ⌜ Lent h × Room k ⌝ }
+fn made(h: Host, k: Step, still: &[u8], lent: &mut [u8], room: &mut [u8]) -> Made
+    requires { ⌜ Lent h × Room k × Long (now still) (now lent) (now room) ⌝ }
     ensures { λ r. ⌜ MadeIn k r ⌝ }
 {
     if k.client {
@@ -31,14 +33,8 @@ fn made(h: Host, k: Step, still: &[u8; STILL], lent: &mut [u8; LENT], room: &mut
 }
 
 // Makes a step, and writes its line.
-fn step(
-    h: Host,
-    k: Step,
-    still: &mut [u8; STILL],
-    lent: &mut [u8; LENT],
-    room: &mut [u8; ROOM],
-) -> Host
-    requires { ⌜ Lent h × Room k ⌝ }
+fn step(h: Host, k: Step, still: &mut [u8], lent: &mut [u8], room: &mut [u8]) -> Host
+    requires { ⌜ Lent h × Room k × Long (now still) (now lent) (now room) ⌝ }
     ensures { λ r. ⌜ Lent r ⌝ }
 {
     let p = h.part(k.client);
@@ -52,14 +48,8 @@ fn step(
 }
 
 // Does what a record says, whose payload has been read.
-fn act(
-    h: Host,
-    c: Command,
-    still: &mut [u8; STILL],
-    lent: &mut [u8; LENT],
-    room: &mut [u8; ROOM],
-) -> Host
-    requires { ⌜ Lent h × Fits c ⌝ }
+fn act(h: Host, c: Command, still: &mut [u8], lent: &mut [u8], room: &mut [u8]) -> Host
+    requires { ⌜ Lent h × Fits c × Long (now still) (now lent) (now room) ⌝ }
     ensures { λ r. ⌜ Lent r ⌝ }
 {
     match c {
@@ -80,8 +70,8 @@ fn act(
 }
 
 // Reads a payload to its place: the table, the image and the slice each have their own. Whether it is whole.
-fn store(letter: u8, size: usize, still: &mut [u8; STILL], lent: &mut [u8; LENT]) -> bool
-    requires { ⌜ size ≤ 262144 ⌝ }
+fn store(letter: u8, size: usize, still: &mut [u8], lent: &mut [u8]) -> bool
+    requires { ⌜ (size ≤ 262144) × (length (now still) ≡ 786432) × (length (now lent) ≡ 524288) ⌝ }
 {
     match letter {
         b'T' => record::payload(still, host::second(), size),
@@ -92,8 +82,8 @@ fn store(letter: u8, size: usize, still: &mut [u8; STILL], lent: &mut [u8; LENT]
 }
 
 // Reads a record and does what it says.
-fn obey(h: Host, still: &mut [u8; STILL], lent: &mut [u8; LENT], room: &mut [u8; ROOM]) -> Host
-    requires { ⌜ Lent h ⌝ }
+fn obey(h: Host, still: &mut [u8], lent: &mut [u8], room: &mut [u8]) -> Host
+    requires { ⌜ Lent h × Long (now still) (now lent) (now room) ⌝ }
     ensures { λ r. ⌜ Lent r ⌝ }
 {
     match record::next() {

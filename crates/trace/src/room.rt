@@ -91,7 +91,7 @@ pub fn kept(m: Moved, p: Part, lent: &[u8], still: &[u8]) -> bool
 
 // The line of a call that was lent the first n bytes of this room. `kept`: what else had to stay as it was did.
 pub fn show(m: Moved, kept: bool, n: usize, room: &[u8])
-    requires { ⌜ (m .given ≤ n) × (n ≤ length (now room)) ⌝ }
+    requires { ⌜ (m .given ≤ n) × (n ≤ 262144) × (length (now room) ≡ 262144) ⌝ }
 {
     let a = m.answer;
     let given = m.given;

@@ -17,10 +17,23 @@ made-requires : tie.Need-made-requires
 made-requires c κs = search needs
 
 kept-requires : tie.Need-kept-requires
-kept-requires c κs = search needs
+kept-requires c κs =
+    let pre = c .before .before .before .before .before .before .before .before .before .before .before .before .before .before .before .before .before .before .before .before .before .before .before .before .pre in
+    (c .before .before .before .before .before .before .before .before .before .before .before .before .before .before .before .before .before .before .before .before .part .ensures, omega (arith, c .before .before .before .before .before .before .before .made, pre .2), omega (arith, c .before .before .before .before .before .before .before .before .before .before .before .before .before .before .before .before .before .keep, pre .2))
 
 show-requires : tie.Need-show-requires
-show-requires c κs = (c .before .before .before .before .before .before .before .before .made .ensures .given, omega (arith, c .before .before .before .before .before .before .before .before .before .before .before .before .before .before .before .before .before .before .before .pre .1 .room))
+show-requires c κs =
+    let pre = c .before .before .before .before .before .before .before .before .before .before .before .before .before .before .before .before .before .before .before .before .before .before .before .before .before .before .pre in
+    (c .before .before .before .before .before .before .before .before .before .made .ensures .given, pre .1 .room, omega (arith, c .before .before .before .before .before .before .before .before .before .made, c .before .before .before .before .before .before .before .before .before .before .before .before .before .before .before .clean, pre .2))
+
+same-length : tie.Need-same-length
+same-length c = omega (arith, c .before .before .before .before .before .before .before .before .before .before .before .before .before .before .before .before .before .before .before .before .before .keep)
+
+same-length-2 : tie.Need-same-length-2
+same-length-2 c = omega (arith, c .before .before .before .before .before .before .before .before .before .before .before .made)
+
+same-length-3 : tie.Need-same-length-3
+same-length-3 c = omega (arith, c .before .before .before .before .before .before .before .before .before .before .before .made, c .before .before .before .before .before .before .before .before .before .before .before .before .before .before .before .before .before .clean)
 
 returns : tie.Need-returns
 returns c = search needs
@@ -35,4 +48,7 @@ step-spec =
     made-requires
     kept-requires
     show-requires
+    same-length
+    same-length-2
+    same-length-3
     returns)
