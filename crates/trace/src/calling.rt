@@ -1,14 +1,16 @@
 // The client's calls.
 use crate::command::Call;
+use crate::command::Made;
 use crate::command::Step;
 use crate::host;
-use crate::host::Host;
+use crate::host::Sizes;
 use crate::print;
 use crate::print::Answer;
-use crate::room::Made;
+use crate::room;
 use crate::room::Moved;
 use client::Called;
 use client::Info;
+use client::Stepped;
 use client::state;
 use client::state::Client;
 use client::state::Device;
@@ -16,10 +18,11 @@ use client::state::Outcome;
 use client::state::Phase;
 use client::state::Value;
 ghost use mathlib.Core.Path.{_≡_};
+ghost use Prim.Native.Nat.{_≤_};
 ghost use lib.ListN.{length};
 ghost use Rattle.machine.specs.Choice.{pick};
 ghost use Rattle.client.specs.Contract.{known};
-ghost use Rattle.trace.specs.Buffers.{Lent, MadeIn, Room};
+ghost use Rattle.trace.specs.Buffers.{FitsCall, Lent, Long, Room};
 ghost use Rattle.trace.specs.Text.{valueShown, calledOf, isResize, resizing, sizeOf};
 
 // ---- answers
@@ -93,58 +96,6 @@ fn shown(before: Client, after: Client) -> u64
     if resizing(before) { size(after) } else { 0 }
 }
 
-// ---- calls
-
-// A step with the payload's input and with this room.
-pub fn step(h: Host, k: Step, still: &[u8], lent: &mut [u8], room: &mut [u8]) -> Made
-    requires { ⌜ Lent h × Room k × (length (now still) ≡ 786432) × (length (now lent) ≡ 524288) × (length (now room) ≡ 262144) ⌝ }
-    ensures { λ r. ⌜ MadeIn k r ⌝ }
-{
-    let slice = host::second();
-    let last = slice + h.slice;
-    let end = k.end;
-    let n = k.room;
-    let s = h.client;
-    let r = s.step(&still[4..end], &mut room[0..n], &mut lent[slice..last]);
-    let client = r.state;
-    let o = r.outcome;
-    let moved = Moved {
-        answer: answer(o, shown(s, client)),
-        taken: r.taken,
-        given: r.given,
-    };
-    let host = h.with_client(client);
-    Made { host, moved }
-}
-
-fn make(c: Client, k: Call, slice: &[u8]) -> Called {
-    match k {
-        Call::Handshake => c.handshake(slice),
-        Call::End => c.end_of_input(),
-        Call::Read => c.read(slice),
-        Call::Write => c.write(slice),
-        Call::Flush => c.flush(),
-        Call::Seek(from) => c.seek(from),
-        Call::Trim(n) => c.trim(n),
-        Call::Resize(n) => c.resize(n),
-    }
-}
-
-// A call with the client's slice, and its line.
-pub fn call(h: Host, k: Call, lent: &[u8]) -> Host
-    requires { ⌜ Lent h × (length (now lent) ≡ 524288) ⌝ }
-    ensures { λ r. ⌜ Lent r ⌝ }
-{
-    let slice = host::second();
-    let last = slice + h.slice;
-    let c = h.client;
-    let r = make(c, k, &lent[slice..last]);
-    let o = r.outcome;
-    print::line(answer(o, 0), 0, b"", false);
-    let client = r.state;
-    h.with_client(client)
-}
-
 // ---- `q`
 
 fn show_device(d: Device) {
@@ -158,7 +109,7 @@ fn show_device(d: Device) {
     print::bit(f.send_flush);
 }
 
-pub fn show(s: Client) {
+fn show(s: Client) {
     print::text(b"client");
     let i = s.info();
     match i {
@@ -166,4 +117,83 @@ pub fn show(s: Client) {
         Info::Unknown => print::text(b" -"),
     }
     print::close(false);
+}
+
+// ---- calls
+
+// The library's step, with the payload's input and with this room.
+fn made(s: Client, k: Step, z: Sizes, still: &[u8], lent: &mut [u8], room: &mut [u8]) -> Stepped
+    requires { ⌜ Room k × Lent z × Long (now still) (now lent) (now room) ⌝ }
+    ensures { λ r. ⌜ r .given ≤ k .room ⌝ }
+{
+    let slice = host::second();
+    let last = slice + z.slice;
+    let end = k.end;
+    let n = k.room;
+    s.step(&still[4..end], &mut room[0..n], &mut lent[slice..last])
+}
+
+// A step, and its line.
+fn step(s: Client, k: Step, z: Sizes, still: &mut [u8], lent: &mut [u8], room: &mut [u8]) -> Client
+    requires { ⌜ Room k × Lent z × Long (now still) (now lent) (now room) ⌝ }
+{
+    let p = z.slice_part();
+    room::prepare(p, k.room, still, lent, room);
+    let r = made(s, k, z, still, lent, room);
+    let o = r.outcome;
+    let m = Moved {
+        answer: answer(o, shown(s, r.state)),
+        taken: r.taken,
+        given: r.given,
+    };
+    room::show_step(m, p, k.room, still, lent, room);
+    r.state
+}
+
+fn make(c: Client, k: Made, slice: &[u8]) -> Called {
+    match k {
+        Made::Handshake => c.handshake(slice),
+        Made::End => c.end_of_input(),
+        Made::Read => c.read(slice),
+        Made::Write => c.write(slice),
+        Made::Flush => c.flush(),
+        Made::Seek(from) => c.seek(from),
+        Made::Trim(n) => c.trim(n),
+        Made::Resize(n) => c.resize(n),
+    }
+}
+
+// A call with the client's slice, and its line.
+fn call(c: Client, k: Made, z: Sizes, lent: &[u8]) -> Client
+    requires { ⌜ Lent z × (length (now lent) ≡ 524288) ⌝ }
+{
+    let slice = host::second();
+    let last = slice + z.slice;
+    let r = make(c, k, &lent[slice..last]);
+    let o = r.outcome;
+    print::line(answer(o, 0), 0, b"", false);
+    r.state
+}
+
+// Does what a record says of the client.
+pub fn obey(
+    s: Client,
+    c: Call,
+    z: Sizes,
+    still: &mut [u8],
+    lent: &mut [u8],
+    room: &mut [u8],
+) -> Client
+    requires { ⌜ FitsCall c × Lent z × Long (now still) (now lent) (now room) ⌝ }
+{
+    match c {
+        Call::Nothing => s,
+        Call::Fresh => Client::new(),
+        Call::Step(k) => step(s, k, z, still, lent, room),
+        Call::Show => {
+            show(s);
+            s
+        }
+        Call::Make(k) => call(s, k, z, lent),
+    }
 }

@@ -4,38 +4,53 @@ use wire::fields;
 ghost use mathlib.Core.Path.{_≡_};
 ghost use Prim.Native.Nat.{_≤_};
 ghost use lib.ListN.{length};
-ghost use Rattle.trace.specs.Buffers.{Fits};
+ghost use Rattle.trace.specs.Buffers.{Fits, FitsCall, FitsServe};
 ghost use Rattle.trace.specs.Text.{twos};
 
 pub enum Command {
     Change(Change),
-    Step(Step),
+    Serve(Serve),
     Call(Call),
-    // the end of input at the server
-    End,
     Head(Head),
     Show(Shown),
+    // the record is bad
     Bad,
+    // the script has ended
+    Over,
 }
 
-// What is kept from now on: a table, an image or a slice of so many bytes, a fresh server or a fresh client.
+// What is kept from now on: a table, an image or a slice of so many bytes.
 pub enum Change {
     Table(usize),
     Image(usize),
     Slice(usize),
-    Server,
-    Client,
 }
 
-// A step of the client, or else of the server, with a room of so many bytes. The input ends so far behind the payload's start.
+// A step, with a room of so many bytes. The input ends so far behind the payload's start.
 pub struct Step {
-    pub client: bool,
     pub room: usize,
     pub end: usize,
 }
 
-// A call of the client's.
+// A call of the server's: none, a fresh server, a step, the end of input.
+pub enum Serve {
+    Nothing,
+    Fresh,
+    Step(Step),
+    End,
+}
+
+// A call of the client's: none, a fresh client, a step, `q`, or one that moves no byte.
 pub enum Call {
+    Nothing,
+    Fresh,
+    Step(Step),
+    Show,
+    Make(Made),
+}
+
+// A call that moves no byte, with the client's slice.
+pub enum Made {
     Handshake,
     End,
     Read,
@@ -56,7 +71,46 @@ pub struct Head {
 pub enum Shown {
     Image,
     Slice,
-    Client,
+}
+
+impl Command {
+    // What it asks of the server.
+    pub fn serve(self) -> Serve
+        requires { ⌜ Fits self ⌝ }
+        ensures { λ r. ⌜ FitsServe r ⌝ }
+    {
+        match self {
+            Command::Change(_) => Serve::Nothing,
+            Command::Serve(k) => k,
+            Command::Call(_) => Serve::Nothing,
+            Command::Head(_) => Serve::Nothing,
+            Command::Show(_) => Serve::Nothing,
+            Command::Bad => Serve::Nothing,
+            Command::Over => Serve::Nothing,
+        }
+    }
+
+    // What it asks of the client.
+    pub fn call(self) -> Call
+        requires { ⌜ Fits self ⌝ }
+        ensures { λ r. ⌜ FitsCall r ⌝ }
+    {
+        match self {
+            Command::Change(_) => Call::Nothing,
+            Command::Serve(_) => Call::Nothing,
+            Command::Call(k) => k,
+            Command::Head(_) => Call::Nothing,
+            Command::Show(_) => Call::Nothing,
+            Command::Bad => Call::Nothing,
+            Command::Over => Call::Nothing,
+        }
+    }
+}
+
+fn making(k: Made) -> Command
+    ensures { λ r. ⌜ Fits r ⌝ }
+{
+    Command::Call(Call::Make(k))
 }
 
 // The signed number whose two's complement is x.
@@ -79,11 +133,12 @@ fn stepping(client: bool, size: usize, payload: &[u8]) -> Command
     if size < 4 || 262144 < room {
         return Command::Bad;
     }
-    Command::Step(Step {
-        client,
-        room,
-        end: size,
-    })
+    let k = Step { room, end: size };
+    if client {
+        Command::Call(Call::Step(k))
+    } else {
+        Command::Serve(Serve::Step(k))
+    }
 }
 
 // `o`: the room's size (4), a size (8), flags (4).
@@ -112,9 +167,9 @@ fn seeking(size: usize, payload: &[u8]) -> Command
     }
     let x = fields::read_u64(payload, 1);
     match payload[0] {
-        0 => Command::Call(Call::Seek(SeekFrom::Start(x))),
-        1 => Command::Call(Call::Seek(SeekFrom::Current(signed(x)))),
-        2 => Command::Call(Call::Seek(SeekFrom::End(signed(x)))),
+        0 => making(Made::Seek(SeekFrom::Start(x))),
+        1 => making(Made::Seek(SeekFrom::Current(signed(x)))),
+        2 => making(Made::Seek(SeekFrom::End(signed(x)))),
         _ => Command::Bad,
     }
 }
@@ -129,9 +184,9 @@ fn numbered(letter: u8, size: usize, payload: &[u8]) -> Command
     }
     let x = fields::read_u64(payload, 0);
     if letter == b't' {
-        Command::Call(Call::Trim(x))
+        making(Made::Trim(x))
     } else {
-        Command::Call(Call::Resize(x))
+        making(Made::Resize(x))
     }
 }
 
@@ -140,17 +195,17 @@ fn bare(letter: u8) -> Command
     ensures { λ r. ⌜ Fits r ⌝ }
 {
     match letter {
-        b'S' => Command::Change(Change::Server),
-        b'C' => Command::Change(Change::Client),
-        b'e' => Command::End,
+        b'S' => Command::Serve(Serve::Fresh),
+        b'C' => Command::Call(Call::Fresh),
+        b'e' => Command::Serve(Serve::End),
         b'i' => Command::Show(Shown::Image),
         b'b' => Command::Show(Shown::Slice),
-        b'q' => Command::Show(Shown::Client),
-        b'h' => Command::Call(Call::Handshake),
-        b'x' => Command::Call(Call::End),
-        b'r' => Command::Call(Call::Read),
-        b'w' => Command::Call(Call::Write),
-        b'f' => Command::Call(Call::Flush),
+        b'q' => Command::Call(Call::Show),
+        b'h' => making(Made::Handshake),
+        b'x' => making(Made::End),
+        b'r' => making(Made::Read),
+        b'w' => making(Made::Write),
+        b'f' => making(Made::Flush),
         _ => Command::Bad,
     }
 }

@@ -1,14 +1,13 @@
-// What is kept from record to record. The bytes stand in three arrays: in `still` what no step changes, which is the payload, the table and a copy of
-// what was lent; in `lent` what a step may change, the image and the client's slice; and the room.
-use crate::calling;
+// What is kept from record to record, beside the two ends. The bytes stand in three arrays: in `still` what no step changes, which is the payload,
+// the table and a copy of what was lent; in `lent` what a step may change, the image and the client's slice; and the room.
 use crate::command::Change;
+use crate::command::Command;
 use crate::command::Shown;
 use crate::print;
-use client::state::Client;
-use server::state::Server;
+use crate::serving;
 ghost use mathlib.Core.Path.{_≡_};
 ghost use lib.ListN.{length};
-ghost use Rattle.trace.specs.Buffers.{Lent, Sized, LiesIn};
+ghost use Rattle.trace.specs.Buffers.{Lent, Sized, Fits, LiesIn};
 
 pub const STILL: usize = 786432;
 
@@ -32,14 +31,11 @@ pub fn third() -> usize
     524288
 }
 
-// The server and the client, how many bytes the table, the image and the client's slice are, and whether the script goes on.
-pub struct Host {
-    pub server: Server,
-    pub client: Client,
+// How many bytes the table, the image and the client's slice have.
+pub struct Sizes {
     pub table: usize,
     pub image: usize,
     pub slice: usize,
-    pub goes: bool,
 }
 
 // So many bytes from a place of `lent` on.
@@ -48,100 +44,43 @@ pub struct Part {
     pub size: usize,
 }
 
-impl Host {
-    pub fn new() -> Host
-        ensures { λ r. ⌜ Lent r ⌝ }
-    {
-        let server = Server::new();
-        let client = Client::new();
-        Host {
-            server,
-            client,
-            table: 0,
-            image: 0,
-            slice: 0,
-            goes: true,
-        }
-    }
-
-    pub fn changed(self, k: Change) -> Host
+impl Sizes {
+    fn changed(self, k: Change) -> Sizes
         requires { ⌜ Lent self × Sized k ⌝ }
         ensures { λ r. ⌜ Lent r ⌝ }
     {
-        let mut h = self;
+        let mut z = self;
         match k {
             Change::Table(n) => {
-                h.table = n;
+                z.table = n;
             }
             Change::Image(n) => {
-                h.image = n;
+                z.image = n;
             }
             Change::Slice(n) => {
-                h.slice = n;
-            }
-            Change::Server => {
-                h.server = Server::new();
-            }
-            Change::Client => {
-                h.client = Client::new();
+                z.slice = n;
             }
         }
-        h
+        z
     }
 
-    // The same, with another server.
-    pub fn with_server(self, server: Server) -> Host
-        requires { ⌜ Lent self ⌝ }
-        ensures { λ r. ⌜ Lent r ⌝ }
-    {
-        let mut h = self;
-        h.server = server;
-        h
-    }
-
-    // The same, with another client.
-    pub fn with_client(self, client: Client) -> Host
-        requires { ⌜ Lent self ⌝ }
-        ensures { λ r. ⌜ Lent r ⌝ }
-    {
-        let mut h = self;
-        h.client = client;
-        h
-    }
-
-    pub fn stops(self) -> Host
-        requires { ⌜ Lent self ⌝ }
-        ensures { λ r. ⌜ Lent r ⌝ }
-    {
-        let mut h = self;
-        h.goes = false;
-        h
-    }
-
-    // A record that is bad, and its line.
-    pub fn bad(self) -> Host
-        requires { ⌜ Lent self ⌝ }
-        ensures { λ r. ⌜ Lent r ⌝ }
-    {
-        print::text(b"bad script\n");
-        self.stops()
-    }
-
-    // The client's slice, or else the image.
-    pub fn part(self, client: bool) -> Part
+    pub fn image_part(self) -> Part
         requires { ⌜ Lent self ⌝ }
         ensures { λ r. ⌜ LiesIn r ⌝ }
     {
-        if client {
-            Part {
-                at: second(),
-                size: self.slice,
-            }
-        } else {
-            Part {
-                at: 0,
-                size: self.image,
-            }
+        Part {
+            at: 0,
+            size: self.image,
+        }
+    }
+
+    pub fn slice_part(self) -> Part
+        requires { ⌜ Lent self ⌝ }
+        ensures { λ r. ⌜ LiesIn r ⌝ }
+    {
+        Part {
+            at: second(),
+            size: self.slice,
         }
     }
 }
@@ -157,13 +96,42 @@ fn show_part(word: &[u8], p: Part, lent: &[u8])
     print::close(false);
 }
 
-// `i`, `b` and `q`
-pub fn show(h: Host, k: Shown, lent: &[u8])
-    requires { ⌜ Lent h × (length (now lent) ≡ 524288) ⌝ }
+// `i` and `b`
+fn show(z: Sizes, k: Shown, lent: &[u8])
+    requires { ⌜ Lent z × (length (now lent) ≡ 524288) ⌝ }
 {
     match k {
-        Shown::Image => show_part(b"image", h.part(false), lent),
-        Shown::Slice => show_part(b"slice", h.part(true), lent),
-        Shown::Client => calling::show(h.client),
+        Shown::Image => show_part(b"image", z.image_part(), lent),
+        Shown::Slice => show_part(b"slice", z.slice_part(), lent),
+    }
+}
+
+// Does what a record says that is about neither end.
+pub fn obey(z: Sizes, c: Command, lent: &[u8], room: &mut [u8]) -> Sizes
+    requires { ⌜ Lent z × Fits c × (length (now lent) ≡ 524288) × (length (now room) ≡ 262144) ⌝ }
+    ensures { λ r. ⌜ Lent r ⌝ }
+{
+    match c {
+        Command::Change(k) => return z.changed(k),
+        Command::Serve(_) => {}
+        Command::Call(_) => {}
+        Command::Head(k) => serving::head(k, room),
+        Command::Show(k) => show(z, k, lent),
+        Command::Bad => print::text(b"bad script\n"),
+        Command::Over => {}
+    }
+    z
+}
+
+// Whether the script goes on behind a record.
+pub fn goes_on(c: Command) -> bool {
+    match c {
+        Command::Change(_) => true,
+        Command::Serve(_) => true,
+        Command::Call(_) => true,
+        Command::Head(_) => true,
+        Command::Show(_) => true,
+        Command::Bad => false,
+        Command::Over => false,
     }
 }

@@ -7,67 +7,18 @@ mod record;
 mod room;
 mod serving;
 
+use client::state::Client;
 use command::Command;
-use command::Step;
-use host::Host;
 use host::LENT;
 use host::ROOM;
 use host::STILL;
+use host::Sizes;
 use record::Record;
-use room::Made;
+use server::state::Server;
 ghost use mathlib.Core.Path.{_≡_};
-ghost use Prim.Native.Nat.{_≤_};
+ghost use Prim.Native.Nat.{_+_, _≤_};
 ghost use lib.ListN.{length};
-ghost use Rattle.trace.specs.Buffers.{Fits, Lent, Long, MadeIn, Room};
-
-// A step of the client or of the server.
-fn made(h: Host, k: Step, still: &[u8], lent: &mut [u8], room: &mut [u8]) -> Made
-    requires { ⌜ Lent h × Room k × Long (now still) (now lent) (now room) ⌝ }
-    ensures { λ r. ⌜ MadeIn k r ⌝ }
-{
-    if k.client {
-        calling::step(h, k, still, lent, room)
-    } else {
-        serving::step(h, k, still, lent, room)
-    }
-}
-
-// Makes a step, and writes its line.
-fn step(h: Host, k: Step, still: &mut [u8], lent: &mut [u8], room: &mut [u8]) -> Host
-    requires { ⌜ Lent h × Room k × Long (now still) (now lent) (now room) ⌝ }
-    ensures { λ r. ⌜ Lent r ⌝ }
-{
-    let p = h.part(k.client);
-    room::keep(p, lent, still);
-    room::clean(k.room, room);
-    let r = made(h, k, still, lent, room);
-    let m = r.moved;
-    let kept = room::kept(m, p, lent, still);
-    room::show(m, kept, k.room, room);
-    r.host
-}
-
-// Does what a record says, whose payload has been read.
-fn act(h: Host, c: Command, still: &mut [u8], lent: &mut [u8], room: &mut [u8]) -> Host
-    requires { ⌜ Lent h × Fits c × Long (now still) (now lent) (now room) ⌝ }
-    ensures { λ r. ⌜ Lent r ⌝ }
-{
-    match c {
-        Command::Change(k) => h.changed(k),
-        Command::Step(k) => step(h, k, still, lent, room),
-        Command::Call(k) => calling::call(h, k, lent),
-        Command::End => serving::end(h),
-        Command::Head(k) => {
-            serving::head(k, room);
-            h
-        }
-        Command::Show(k) => {
-            host::show(h, k, lent);
-            h
-        }
-        Command::Bad => h.bad(),
-    }
-}
+ghost use Rattle.trace.specs.Buffers.{Fits};
 
 // Reads a payload to its place: the table, the image and the slice each have their own. Whether it is whole.
 fn store(letter: u8, size: usize, still: &mut [u8], lent: &mut [u8]) -> bool
@@ -81,35 +32,48 @@ fn store(letter: u8, size: usize, still: &mut [u8], lent: &mut [u8]) -> bool
     }
 }
 
-// Reads a record and does what it says.
-fn obey(h: Host, still: &mut [u8], lent: &mut [u8], room: &mut [u8]) -> Host
-    requires { ⌜ Lent h × Long (now still) (now lent) (now room) ⌝ }
-    ensures { λ r. ⌜ Lent r ⌝ }
+// Reads a record, and says what it asks for.
+fn next(still: &mut [u8], lent: &mut [u8]) -> Command
+    requires { ⌜ (length (now still) ≡ 786432) × (length (now lent) ≡ 524288) ⌝ }
+    ensures { λ r. ⌜ Fits r ⌝ }
 {
     match record::next() {
         Record::Of { letter, size } => {
             if store(letter, size, still, lent) {
-                act(h, command::read(letter, size, still), still, lent, room)
+                command::read(letter, size, still)
             } else {
-                h.bad()
+                Command::Bad
             }
         }
-        Record::Bad => h.bad(),
-        Record::Over => h.stops(),
+        Record::Bad => Command::Bad,
+        Record::Over => Command::Over,
     }
+}
+
+// How many turns are left behind a record.
+fn left(c: Command, turns: u64) -> u64
+    requires { ⌜ 1 ≤ turns ⌝ }
+    ensures { λ r. ⌜ r + 1 ≤ turns ⌝ }
+{
+    if host::goes_on(c) { turns - 1 } else { 0 }
 }
 
 // A proved loop has to end, and nothing says that a script does: its turns count down from a number that no run uses up.
 fn obey_all(still: &mut [u8; STILL], lent: &mut [u8; LENT], room: &mut [u8; ROOM]) {
-    let mut h = Host::new();
+    let mut server = Server::new();
+    let mut client = Client::new();
+    let mut sizes = Sizes {
+        table: 0,
+        image: 0,
+        slice: 0,
+    };
     let mut turns = u64::MAX;
     while turns > 0 {
-        h = obey(h, still, lent, room);
-        if h.goes {
-            turns -= 1;
-        } else {
-            turns = 0;
-        }
+        let c = next(still, lent);
+        sizes = host::obey(sizes, c, lent, room);
+        server = serving::obey(server, c.serve(), sizes, still, lent, room);
+        client = calling::obey(client, c.call(), sizes, still, lent, room);
+        turns = left(c, turns);
     }
 }
 

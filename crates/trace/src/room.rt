@@ -1,7 +1,6 @@
 // The buffers around a step. The room is AA before the call, so that what the call wrote shows; what is lent is copied, so that a refusal can be
 // seen to leave it.
 use crate::host;
-use crate::host::Host;
 use crate::host::Part;
 use crate::print;
 use crate::print::Answer;
@@ -10,7 +9,7 @@ use wire::fields;
 ghost use mathlib.Core.Path.{_≡_};
 ghost use Prim.Native.Nat.{_≤_};
 ghost use lib.ListN.{length, replicate};
-ghost use Rattle.trace.specs.Buffers.{LiesIn};
+ghost use Rattle.trace.specs.Buffers.{LiesIn, Long};
 ghost use Rattle.trace.specs.Text.{unchanged};
 
 // What a call answered, and how many bytes it took and gave.
@@ -18,12 +17,6 @@ pub struct Moved {
     pub answer: Answer,
     pub taken: usize,
     pub given: usize,
-}
-
-// A step: what it moved, and the host after it.
-pub struct Made {
-    pub host: Host,
-    pub moved: Moved,
 }
 
 pub fn fill(room: &mut [u8])
@@ -57,16 +50,17 @@ pub fn unchanged(room: &[u8]) -> bool
     true
 }
 
-// Copies what is lent.
-pub fn keep(p: Part, lent: &[u8], still: &mut [u8])
-    requires { ⌜ LiesIn p × (length (now lent) ≡ 524288) × (length (now still) ≡ 786432) ⌝ }
+// Copies what is lent, and fills the room: before a step.
+pub fn prepare(p: Part, n: usize, still: &mut [u8], lent: &[u8], room: &mut [u8])
+    requires { ⌜ LiesIn p × (n ≤ 262144) × Long (now still) (now lent) (now room) ⌝ }
 {
     copy::copy_part(lent, p.at, still, host::third(), p.size);
+    clean(n, room);
 }
 
 // Whether what is lent is as it was.
-fn as_copied(p: Part, lent: &[u8], still: &[u8]) -> bool
-    requires { ⌜ LiesIn p × (length (now lent) ≡ 524288) × (length (now still) ≡ 786432) ⌝ }
+fn as_copied(p: Part, still: &[u8], lent: &[u8]) -> bool
+    requires { ⌜ LiesIn p × (length (now still) ≡ 786432) × (length (now lent) ≡ 524288) ⌝ }
 {
     let at = p.at;
     let end = at + p.size;
@@ -76,16 +70,15 @@ fn as_copied(p: Part, lent: &[u8], still: &[u8]) -> bool
 }
 
 // Whether what is lent is as it was, where it has to be: after a refusal.
-pub fn kept(m: Moved, p: Part, lent: &[u8], still: &[u8]) -> bool
-    requires { ⌜ LiesIn p × (length (now lent) ≡ 524288) × (length (now still) ≡ 786432) ⌝ }
+fn kept(a: Answer, p: Part, still: &[u8], lent: &[u8]) -> bool
+    requires { ⌜ LiesIn p × (length (now still) ≡ 786432) × (length (now lent) ≡ 524288) ⌝ }
 {
-    let a = m.answer;
     match a {
         Answer::On => true,
         Answer::Done(_) => true,
         Answer::Fail(_) => true,
         Answer::End(_) => true,
-        Answer::No(_) => as_copied(p, lent, still),
+        Answer::No(_) => as_copied(p, still, lent),
     }
 }
 
@@ -97,4 +90,13 @@ pub fn show(m: Moved, kept: bool, n: usize, room: &[u8])
     let given = m.given;
     let changed = !unchanged(&room[given..n]) || !kept;
     print::line(a, m.taken, &room[0..given], changed);
+}
+
+// The line of a step on this part, with the first n bytes of the room.
+pub fn show_step(m: Moved, p: Part, n: usize, still: &[u8], lent: &[u8], room: &[u8])
+    requires { ⌜ (m .given ≤ n) × LiesIn p × (n ≤ 262144) × Long (now still) (now lent) (now room) ⌝ }
+{
+    let a = m.answer;
+    let same = kept(a, p, still, lent);
+    show(m, same, n, room);
 }

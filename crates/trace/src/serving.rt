@@ -1,20 +1,22 @@
 // The server's calls.
 use crate::command::Head;
+use crate::command::Serve;
 use crate::command::Step;
 use crate::host;
-use crate::host::Host;
+use crate::host::Sizes;
 use crate::print;
 use crate::print::Answer;
 use crate::room;
-use crate::room::Made;
 use crate::room::Moved;
+use server::Stepped;
 use server::oldstyle;
 use server::oldstyle::HeaderAnswer;
 use server::state::Outcome;
+use server::state::Server;
 ghost use mathlib.Core.Path.{_≡_};
 ghost use Prim.Native.Nat.{_≤_};
 ghost use lib.ListN.{length};
-ghost use Rattle.trace.specs.Buffers.{Lent, MadeIn, Room};
+ghost use Rattle.trace.specs.Buffers.{FitsServe, Lent, Long, Room};
 ghost use Rattle.trace.specs.Text.{lineOf};
 
 fn answer(o: Outcome) -> Answer
@@ -27,45 +29,66 @@ fn answer(o: Outcome) -> Answer
     }
 }
 
-// A step with the payload's input and with this room.
-pub fn step(h: Host, k: Step, still: &[u8], lent: &mut [u8], room: &mut [u8]) -> Made
-    requires { ⌜ Lent h × Room k × (length (now still) ≡ 786432) × (length (now lent) ≡ 524288) × (length (now room) ≡ 262144) ⌝ }
-    ensures { λ r. ⌜ MadeIn k r ⌝ }
+// The library's step, with the payload's input and with this room.
+fn made(s: Server, k: Step, z: Sizes, still: &[u8], lent: &mut [u8], room: &mut [u8]) -> Stepped
+    requires { ⌜ Room k × Lent z × Long (now still) (now lent) (now room) ⌝ }
+    ensures { λ r. ⌜ r .given ≤ k .room ⌝ }
 {
     let table = host::second();
-    let last = table + h.table;
-    let m = h.image;
+    let last = table + z.table;
+    let m = z.image;
     let end = k.end;
     let n = k.room;
-    let s = h.server;
-    let r = s.step(
+    s.step(
         &still[4..end],
         &mut room[0..n],
         &still[table..last],
         &mut lent[0..m],
-    );
+    )
+}
+
+// A step, and its line.
+fn step(s: Server, k: Step, z: Sizes, still: &mut [u8], lent: &mut [u8], room: &mut [u8]) -> Server
+    requires { ⌜ Room k × Lent z × Long (now still) (now lent) (now room) ⌝ }
+{
+    let p = z.image_part();
+    room::prepare(p, k.room, still, lent, room);
+    let r = made(s, k, z, still, lent, room);
     let o = r.outcome;
-    let moved = Moved {
+    let m = Moved {
         answer: answer(o),
         taken: r.taken,
         given: r.given,
     };
-    let server = r.state;
-    let host = h.with_server(server);
-    Made { host, moved }
+    room::show_step(m, p, k.room, still, lent, room);
+    r.state
 }
 
 // The end of input, and its line.
-pub fn end(h: Host) -> Host
-    requires { ⌜ Lent h ⌝ }
-    ensures { λ r. ⌜ Lent r ⌝ }
-{
-    let s = h.server;
+fn end(s: Server) -> Server {
     let r = s.end_of_input();
     let o = r.outcome;
     print::line(answer(o), 0, b"", false);
-    let server = r.state;
-    h.with_server(server)
+    r.state
+}
+
+// Does what a record says of the server.
+pub fn obey(
+    s: Server,
+    c: Serve,
+    z: Sizes,
+    still: &mut [u8],
+    lent: &mut [u8],
+    room: &mut [u8],
+) -> Server
+    requires { ⌜ FitsServe c × Lent z × Long (now still) (now lent) (now room) ⌝ }
+{
+    match c {
+        Serve::Nothing => s,
+        Serve::Fresh => Server::new(),
+        Serve::Step(k) => step(s, k, z, still, lent, room),
+        Serve::End => end(s),
+    }
 }
 
 fn header(size: u64, flags: u32, room: &mut [u8]) -> Moved

@@ -1,45 +1,17 @@
--- What is given lies in the room.
-use Rattle.client.proofs.Result.{within}
+-- The buffers keep their lengths, and a step gives no more than its room.
 use native.Mathlib.Omega.{arith}
 use borrow.Author.Needs.{needs}
 use Rattle.trace.proofs.calling.step.Statement.{statement}
 use Rattle.trace.proofs.calling.step.Tie as tie
 
-second-requires : tie.Need-second-requires
-second-requires c κs = search needs
+slice-part-requires : tie.Need-slice-part-requires
+slice-part-requires c κs = search needs
 
-add-last : tie.Need-add-last
-add-last c = search needs
+prepare-requires : tie.Need-prepare-requires
+prepare-requires c κs = search needs
 
-sub-step : tie.Need-sub-step
-sub-step c = search needs
-
-part-step-start : tie.Need-part-step-start
-part-step-start c = search needs
-
-part-step-end : tie.Need-part-step-end
-part-step-end c = search needs
-
-sub-step-2 : tie.Need-sub-step-2
-sub-step-2 c = search needs
-
-part-step-start-2 : tie.Need-part-step-start-2
-part-step-start-2 c = search needs
-
-part-step-end-2 : tie.Need-part-step-end-2
-part-step-end-2 c = search needs
-
-sub-step-3 : tie.Need-sub-step-3
-sub-step-3 c = search needs
-
-part-step-start-3 : tie.Need-part-step-start-3
-part-step-start-3 c = search needs
-
-part-step-end-3 : tie.Need-part-step-end-3
-part-step-end-3 c = search needs
-
-step-requires : tie.Need-step-requires
-step-requires c κs = search needs
+made-requires : tie.Need-made-requires
+made-requires c κs = search needs
 
 shown-requires : tie.Need-shown-requires
 shown-requires c κs = search needs
@@ -47,8 +19,12 @@ shown-requires c κs = search needs
 answer-requires : tie.Need-answer-requires
 answer-requires c κs = search needs
 
-with-client-requires : tie.Need-with-client-requires
-with-client-requires c κs = search needs
+show-step-requires : tie.Need-show-step-requires
+show-step-requires c κs =
+    let pre = c .before .before .before .before .before .before .before .before .before .before .before .before .before .before .before .before .before .before .before .before .before .before .before .before .before .pre in
+    let prepare = c .before .before .before .before .before .before .before .before .before .before .before .before .before .before .before .before .before .prepare in
+    let made = c .before .before .before .before .before .before .before .before .before .made in
+    (made .ensures, c .before .before .before .before .before .before .before .before .before .before .before .before .before .before .before .before .before .before .before .before .before .slice-part .ensures, pre .0 .room, (omega (arith, prepare, pre .2), omega (arith, made, pre .2), omega (arith, made, prepare, pre .2)))
 
 same-length : tie.Need-same-length
 same-length c = search needs
@@ -56,28 +32,23 @@ same-length c = search needs
 same-length-2 : tie.Need-same-length-2
 same-length-2 c = search needs
 
+same-length-3 : tie.Need-same-length-3
+same-length-3 c = search needs
+
 returns : tie.Need-returns
-returns c = record { lent = c .with-client .ensures; given = omega (arith, within (c .before .before .before .before .before .before .before .before .step .ensures) .1, c .before .before .before .before .before .before .before .before .step) }
+returns c = search needs
 
 pub step-spec : {M : Type 1} → statement M
 step-spec =
     tie.close
     (tie.spec
-    second-requires
-    add-last
-    sub-step
-    part-step-start
-    part-step-end
-    sub-step-2
-    part-step-start-2
-    part-step-end-2
-    sub-step-3
-    part-step-start-3
-    part-step-end-3
-    step-requires
+    slice-part-requires
+    prepare-requires
+    made-requires
     shown-requires
     answer-requires
-    with-client-requires
+    show-step-requires
     same-length
     same-length-2
+    same-length-3
     returns)

@@ -1,7 +1,7 @@
 -- What is kept anew has the size that the change names.
 use borrow.Author.Needs.{needs}
-use Rattle.trace.proofs.host.Host.changed.Statement.{statement}
-use Rattle.trace.proofs.host.Host.changed.Tie as tie
+use Rattle.trace.proofs.host.Sizes.changed.Statement.{statement}
+use Rattle.trace.proofs.host.Sizes.changed.Tie as tie
 
 enum-known-k : tie.Need-enum-known-k
 enum-known-k c = search needs
@@ -12,18 +12,6 @@ enum-known-k-2 c = search needs
 enum-known-k-3 : tie.Need-enum-known-k-3
 enum-known-k-3 c = search needs
 
-enum-told : tie.Need-enum-told
-enum-told c = search needs
-
-new-requires : tie.Need-new-requires
-new-requires c κs = search needs
-
-enum-told-2 : tie.Need-enum-told-2
-enum-told-2 c = search needs
-
-new-requires-2 : tie.Need-new-requires-2
-new-requires-2 c κs = search needs
-
 returns : tie.Need-returns
 returns c = let n = rw (c .before .k .given .1) at (c .before .before .before .pre .1) in let l = c .before .before .before .pre .0 in record { table = n; image = l .image; slice = l .slice }
 
@@ -33,25 +21,6 @@ returns-2 c = let n = rw (c .before .k2 .given .1) at (c .before .before .before
 returns-3 : tie.Need-returns-3
 returns-3 c = let n = rw (c .before .k3 .given .1) at (c .before .before .before .pre .1) in let l = c .before .before .before .pre .0 in record { table = l .table; image = l .image; slice = n }
 
-returns-4 : tie.Need-returns-4
-returns-4 c = search needs
-
-returns-5 : tie.Need-returns-5
-returns-5 c = search needs
-
 pub changed-spec : {M : Type 1} → statement M
 changed-spec =
-    tie.close
-    (tie.spec
-    enum-known-k
-    enum-known-k-2
-    enum-known-k-3
-    enum-told
-    new-requires
-    enum-told-2
-    new-requires-2
-    returns
-    returns-2
-    returns-3
-    returns-4
-    returns-5)
+    tie.close (tie.spec enum-known-k enum-known-k-2 enum-known-k-3 returns returns-2 returns-3)
