@@ -12,7 +12,7 @@ use Rattle.machine.proofs.Cutting.{cutting}
 use Rattle.client.specs.Session.{State, turn}
 use Rattle.client.specs.View.{view}
 use Rattle.client.specs.Contract.{after}
-use Rattle.client.specs.Driven.{Driven, once, again}
+use Rattle.client.specs.History.{Driven, once, again}
 use Rattle.client.specs.declared.state.Client.{Client}
 use Rattle.client.proofs.Tidy.{viewed}
 

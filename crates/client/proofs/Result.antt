@@ -23,10 +23,10 @@ use Rattle.wire.specs.Numbers.{clamped}
 use Rattle.client.specs.Calls.{transfer, sought, amount, positioned, valueOf}
 use Rattle.client.specs.Session.{Magic, Asking, State, Blank, Shaking, Ready, Calling, Closed, Over, turn}
 use Rattle.client.specs.View.{view, code}
-use Rattle.client.specs.Ranges.{ranged, inRange, sameLoan, refusal}
+use Rattle.client.specs.Ranges.{ranged, inRange, refusal}
 use Rattle.client.specs.Inner.{Part, GoodCall}
 use Rattle.client.specs.Contract.{answer, refused, callCheck, called, opened, grantedOn, grantedAt, begun, moving, soughtTo, shakenAt, endedAt, after, outcomeOf, Drives}
-use Rattle.client.specs.Reached.{Ask, to-shake, to-read, to-write, to-trim, to-flush, to-resize, to-seek, to-end, answered, Reached, at-first, by-call, by-step}
+use Rattle.client.specs.History.{Ask, to-shake, to-read, to-write, to-trim, to-flush, to-resize, to-seek, to-end, answered, Reached, at-first, by-call, by-step}
 use Rattle.client.specs.declared.state.Device.{Device}
 use Rattle.client.specs.declared.state.Call.{Call}
 use Rattle.client.specs.declared.state.Call.the-variants.{Read, Write, Flush, Trim, Resize}

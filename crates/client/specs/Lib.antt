@@ -4,5 +4,4 @@ pub mod View
 pub mod Ranges
 pub mod Inner
 pub mod Contract
-pub mod Reached
-pub mod Driven
+pub mod History

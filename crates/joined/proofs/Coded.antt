@@ -24,7 +24,7 @@ use Rattle.client.specs.View.{view, code}
 use Rattle.client.specs.Session as client
 use Rattle.client.specs.Ranges.{refusal as why}
 use Rattle.client.specs.Contract.{shaken, after, outcomeOf, Drives}
-use Rattle.client.specs.Reached.{Ask, to-shake, to-read, to-write, to-trim, to-flush, to-seek, Reached, by-call, by-step}
+use Rattle.client.specs.History.{Ask, to-shake, to-read, to-write, to-trim, to-flush, to-seek, Reached, by-call, by-step}
 use Rattle.client.specs.declared.state.Client.{Client}
 use Rattle.client.specs.declared.Stepped as driven
 use Rattle.client.proofs.Tidy.{viewed}

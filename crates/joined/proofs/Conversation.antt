@@ -21,7 +21,7 @@ use Rattle.server.specs.declared.state.Server.{Server}
 use Rattle.client.specs.Session as client
 use Rattle.client.specs.Calls.{device}
 use Rattle.client.specs.Contract.{fresh}
-use Rattle.client.specs.Reached.{at-first}
+use Rattle.client.specs.History.{at-first}
 use Rattle.client.specs.declared.state.Client.{Client}
 use Rattle.wire.specs.Results.{Result}
 use Rattle.machine.specs.Parts.{placed}

@@ -6,7 +6,6 @@ use wire::number::Added;
 ghost use mathlib.Core.Path.{_≡_};
 ghost use Prim.Native.Nat.{_+_, _≤_};
 ghost use Rattle.wire.specs.Fields.{field};
-ghost use Rattle.leaves.specs.Twos.{twos};
 
 // ---- fields
 
@@ -94,19 +93,8 @@ pub fn clamp(x: u64) {
 
 // ---- checked_add_i64
 
-// The signed number whose two's complement is x.
-fn signed(x: u64) -> i64
-    ensures { λ r. ⌜ r ≡ twos x ⌝ }
-{
-    if x < 0x8000_0000_0000_0000 {
-        return x as i64;
-    }
-    let y = 0xFFFF_FFFF_FFFF_FFFF - x;
-    -1 - y as i64
-}
-
 pub fn add(x: u64, y: u64) {
-    let a = number::checked_add_i64(x, signed(y));
+    let a = number::checked_add_i64(x, number::signed(y));
     match a {
         Added::Sum(n) => say::number(n),
         Added::Outside => say::text(b" refused"),

@@ -21,7 +21,7 @@ use Rattle.client.specs.Session.{Asking, Ready, Calling}
 use Rattle.client.specs.View.{code}
 use Rattle.client.specs.Ranges.{lentTo}
 use Rattle.client.specs.Contract.{answer, valuesIn}
-use Rattle.client.specs.Reached.{answered}
+use Rattle.client.specs.History.{answered}
 use Rattle.client.specs.declared.state.Device.{Device}
 use Rattle.client.specs.declared.state.Call as request
 use Rattle.client.specs.declared.state.Call.the-variants.{Read, Write, Flush, Trim, Resize}

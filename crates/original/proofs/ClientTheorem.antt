@@ -20,8 +20,7 @@ use Rattle.client.specs.Session.{State, Blank, Magic, Shaking, Ready, Calling, 
 use Rattle.client.specs.View.{code}
 use Rattle.client.specs.Ranges.{inRange}
 use Rattle.client.specs.Contract.{after, outcomeOf, valuesIn, answer, fresh, endOfInput}
-use Rattle.client.specs.Driven.{Driven, once, again}
-use Rattle.client.specs.Reached.{Reached, at-first, by-call, by-step, to-shake, answered}
+use Rattle.client.specs.History.{Driven, once, again, Reached, at-first, by-call, by-step, to-shake, answered}
 use Rattle.client.specs.declared.state.Client.{Client}
 use Rattle.client.specs.declared.state.Device.{Device}
 use Rattle.client.specs.declared.state.Outcome.{Outcome}

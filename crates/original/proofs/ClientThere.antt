@@ -19,8 +19,7 @@ use Rattle.client.specs.Session.{State, Ready, turn}
 use Rattle.client.specs.View.{code}
 use Rattle.client.specs.Ranges.{refusal}
 use Rattle.client.specs.Contract.{Drives, after, outcomeOf, answer, fresh}
-use Rattle.client.specs.Driven.{once}
-use Rattle.client.specs.Reached.{Reached, at-first, by-call, to-shake, answered}
+use Rattle.client.specs.History.{once, Reached, at-first, by-call, to-shake, answered}
 use Rattle.client.specs.declared.state.Client.{Client}
 use Rattle.client.specs.declared.state.Device.{Device}
 use Rattle.client.specs.declared.state.Outcome.{Outcome}

@@ -18,7 +18,7 @@ use Prim.Native.Nat.{ℕ, _≤_}
 use mathlib.Core.Path.{_≡_}
 use mathlib.Core.Bool.{Bool, true, false}
 use mathlib.Core.List.{List, [], _∷_, _++_}
-use mathlib.Core.Option.{Option, none, some}
+use mathlib.Core.Option.{none, some}
 use lib.ListN.{length}
 use Rattle.machine.specs.Machine.{on}
 use Rattle.machine.specs.Stream.{Finished}
@@ -26,8 +26,7 @@ use Rattle.wire.specs.Results.{Result}
 use Rattle.client.specs.Session.{State, Blank, Shaking, Ready, Calling, Closed, Over, turn}
 use Rattle.client.specs.View.{code}
 use Rattle.client.specs.Contract.{after, outcomeOf, numberOf, valuesOf, endOfInput, fresh}
-use Rattle.client.specs.Driven.{Driven}
-use Rattle.client.specs.Reached.{Ask, to-shake, to-read, to-write, to-trim, to-flush, to-resize, to-seek, answered}
+use Rattle.client.specs.History.{Driven, Ask, to-shake, to-read, to-write, to-trim, to-flush, to-resize, to-seek, answered}
 use Rattle.client.specs.declared.state.Client.{Client}
 use Rattle.client.specs.declared.state.Outcome.{Outcome}
 use Rattle.client.specs.declared.state.Outcome.the-variants.{Open, Succeeded, Failed, Ended, Refused}

@@ -19,7 +19,6 @@ use mathlib.Core.Path.{_≡_}
 use mathlib.Core.Bool.{Bool, true}
 use mathlib.Core.List.{List, [], _∷_, _++_}
 use lib.ListN.{length, replicate}
-use Rattle.machine.specs.Choice.{both}
 use Rattle.machine.specs.Machine.{On, on, owes}
 use Rattle.machine.specs.Run.{Ran, runFor}
 use Rattle.machine.specs.Stream.{Finished}
@@ -32,7 +31,7 @@ use Rattle.client.specs.Session as client
 use Rattle.client.specs.Session.{Over}
 use Rattle.client.specs.View.{code}
 use Rattle.client.specs.Contract.{fresh, endOfInput}
-use Rattle.client.specs.Reached.{to-shake, answered}
+use Rattle.client.specs.History.{to-shake, answered}
 use Rattle.client.specs.declared.state.Device.{Device}
 use Rattle.client.specs.declared.state.Call.the-variants.{Flush}
 use Rattle.client.specs.declared.state.Outcome.the-variants.{Ended, Refused}

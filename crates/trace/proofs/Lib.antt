@@ -1,4 +1,3 @@
 pub mod Hex
 pub mod Marked
 pub mod Given
-pub mod Twos

@@ -6,14 +6,12 @@
 --   isResize   whether a call is a resize
 --   resizing   whether the open call is a resize, whose line shows the client's size
 --   sizeOf     that size
---   twos       the signed number that 64 bits stand for, in two's complement
 --   unchanged  whether every byte of a room is still AA
-use Prim.Native.Nat.{ℕ, _-_, _/_, _%_, _^_}
+use Prim.Native.Nat.{ℕ, _/_, _%_}
 use mathlib.Core.Bool.{Bool, true, false}
 use mathlib.Core.List.{List, [], _∷_}
-use lib.Dec.{eqb, ltb}
-use lib.IntN.{ℤ, pos, negsuc}
-use Rattle.machine.specs.Choice.{both, pick}
+use lib.Dec.{eqb}
+use Rattle.machine.specs.Choice.{both}
 use Rattle.io.specs.Digits.{glyph}
 use Rattle.server.specs.declared.state.Outcome.{Outcome}
 use Rattle.server.specs.declared.state.Outcome.the-variants as outcome
@@ -71,10 +69,6 @@ resizing (Over n) = false
 abbrev pub sizeOf : Info → ℕ
 sizeOf (Known d) = d .size
 sizeOf Unknown = 0
-
--- `negsuc n` is -(n + 1)
-abbrev pub twos : ℕ → ℤ
-twos x = pick (ltb x (2 ^ 63)) (pos x) (negsuc (2 ^ 64 - 1 - x))
 
 abbrev pub unchanged : List ℕ → Bool
 unchanged [] = true

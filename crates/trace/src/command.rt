@@ -1,11 +1,11 @@
 // What a record says, by its letter and its payload.
 use client::state::SeekFrom;
 use wire::fields;
+use wire::number;
 ghost use mathlib.Core.Path.{_≡_};
 ghost use Prim.Native.Nat.{_≤_};
 ghost use lib.ListN.{length};
 ghost use Rattle.trace.specs.Buffers.{Fits, FitsCall, FitsServe};
-ghost use Rattle.trace.specs.Text.{twos};
 
 pub enum Command {
     Change(Change),
@@ -113,17 +113,6 @@ fn making(k: Made) -> Command
     Command::Call(Call::Make(k))
 }
 
-// The signed number whose two's complement is x.
-fn signed(x: u64) -> i64
-    ensures { λ r. ⌜ r ≡ twos x ⌝ }
-{
-    if x < 0x8000_0000_0000_0000 {
-        return x as i64;
-    }
-    let y = 0xFFFF_FFFF_FFFF_FFFF - x;
-    -1 - y as i64
-}
-
 // `s` and `c`: the room's size (4), and the input.
 fn stepping(client: bool, size: usize, payload: &[u8]) -> Command
     requires { ⌜ (size ≤ 262144) × (262144 ≤ length (now payload)) ⌝ }
@@ -168,8 +157,8 @@ fn seeking(size: usize, payload: &[u8]) -> Command
     let x = fields::read_u64(payload, 1);
     match payload[0] {
         0 => making(Made::Seek(SeekFrom::Start(x))),
-        1 => making(Made::Seek(SeekFrom::Current(signed(x)))),
-        2 => making(Made::Seek(SeekFrom::End(signed(x)))),
+        1 => making(Made::Seek(SeekFrom::Current(number::signed(x)))),
+        2 => making(Made::Seek(SeekFrom::End(number::signed(x)))),
         _ => Command::Bad,
     }
 }

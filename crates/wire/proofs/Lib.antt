@@ -13,3 +13,4 @@ pub mod Walks
 pub mod Sieves
 pub mod Found
 pub mod Answers
+pub mod Signed

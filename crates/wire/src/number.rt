@@ -1,6 +1,6 @@
 // Arithmetic of the client's calls.
 ghost use mathlib.Core.Path.{_≡_};
-ghost use Rattle.wire.specs.Numbers.{clamped, added, sumOf};
+ghost use Rattle.wire.specs.Numbers.{clamped, added, twos, sumOf};
 
 // A sum, where there is one.
 pub enum Added {
@@ -45,4 +45,15 @@ pub fn checked_add_i64(p: u64, d: i64) -> Added
     } else {
         Added::Sum(p - down)
     }
+}
+
+// The signed number whose two's complement is x.
+pub fn signed(x: u64) -> i64
+    ensures { λ r. ⌜ r ≡ twos x ⌝ }
+{
+    if x < 0x8000_0000_0000_0000 {
+        return x as i64;
+    }
+    let y = 0xFFFF_FFFF_FFFF_FFFF - x;
+    -1 - y as i64
 }

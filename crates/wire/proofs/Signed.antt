@@ -11,7 +11,7 @@ use lib.IntN.{ℤ, pos, negsuc, _-ℤ_}
 use mir.Syntax.{w64}
 use mir.Val.{SFits, toZ, ofZ}
 use mir.ValLaws.{toZ-ofZ}
-use Rattle.trace.specs.Text.{twos}
+use Rattle.wire.specs.Numbers.{twos}
 
 -- read back
 back : (n : ℕ) → n < 2 ^ 63 → toZ w64 n ≡ pos n

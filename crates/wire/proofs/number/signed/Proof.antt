@@ -1,9 +1,9 @@
 -- Below 2^63 the bits are the number; from there on -1 less what is left to 2^64 - 1 has these bits.
 use native.Mathlib.Omega.{arith}
-use Rattle.leaves.proofs.Signed.{low, high-fits, high}
+use Rattle.wire.proofs.Signed.{low, high-fits, high}
 use borrow.Author.Needs.{needs}
-use Rattle.leaves.proofs.numbers.signed.Statement.{statement}
-use Rattle.leaves.proofs.numbers.signed.Tie as tie
+use Rattle.wire.proofs.number.signed.Statement.{statement}
+use Rattle.wire.proofs.number.signed.Tie as tie
 
 cast-result : tie.Need-cast-result
 cast-result c = search needs
