@@ -76,9 +76,9 @@ class Reader:
         return answers
 
 
-def ask(driver, sessions):
-    """What the crate answers to each session."""
-    got = subprocess.run([driver], input=b"".join(map(encoded, sessions)), stdout=subprocess.PIPE, check=True).stdout
+def ask(driver, sessions, **how):
+    """What the crate answers to each session. `how` is what else subprocess is to know."""
+    got = subprocess.run([driver], input=b"".join(map(encoded, sessions)), stdout=subprocess.PIPE, check=True, **how).stdout
     reader = Reader(got)
     answers = [reader.answer(s) for s in sessions]
     assert reader.at == len(got)

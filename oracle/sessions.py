@@ -214,8 +214,9 @@ def long_options(rng):
 
 
 def longest_option(rng):
-    """The one of `long_options` that the sample has."""
-    yield serve(rng, A, hello(3) + option(6, b"n" * 100000) + option(1, b"a") + request(DISC))
+    """Options of the greatest length of which only the front comes: the sample has these in place of `long_options`, which are long."""
+    for kind in (1, 2, 3, 5, 6, 12):
+        yield serve(rng, A, hello(3) + option(kind, b"rest", 100000))
 
 
 def names(rng):
