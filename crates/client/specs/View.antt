@@ -1,4 +1,5 @@
 -- The state that a client stands for, and the one client that stands for a state.
+--   fillerOf p                                the state that a filler under way stands for
 --   handshakeOf h, progressOf h, viewOf h     the state that a phase stands for, with the bytes h in `head`: of a handshake, of a call, of the whole
 --   view s                                    the state that the struct stands for
 --   handshakePhase, progressPhase, phaseOf    the phase that stands for a state: of a handshake, of a call, of the whole
@@ -12,9 +13,13 @@ use lib.ListN.{length, take, replicate}
 use Rattle.client.specs.Session.{Handshake, Magic, Style, Newstyle, Hello, Naming, SizeAndFlags, Filler, Progress, Asking, Paying, Hearing, Filling}
 use Rattle.client.specs.Session.{State, Blank, Shaking, Ready, Calling, Closed, Over}
 use Rattle.client.specs.declared.state.Handshake as hs
+use Rattle.client.specs.declared.state.Filler as fl
 use Rattle.client.specs.declared.state.Progress as pr
 use Rattle.client.specs.declared.state.Phase as ph
 use Rattle.client.specs.declared.state.Client.{Client}
+
+abbrev pub fillerOf : fl.Filler → Handshake
+fillerOf p = Filler (p .size) (p .flags) (p .clean) (p .left)
 
 abbrev pub handshakeOf : List ℕ → hs.Handshake → Handshake
 handshakeOf h (hs.Handshake.Magic have) = Magic (take have h)
@@ -23,7 +28,7 @@ handshakeOf h (hs.Handshake.Newstyle left) = Newstyle left
 handshakeOf h (hs.Handshake.Hello left) = Hello left
 handshakeOf h (hs.Handshake.Naming left) = Naming left
 handshakeOf h (hs.Handshake.SizeAndFlags old have) = SizeAndFlags old (take have h)
-handshakeOf h (hs.Handshake.Filler size flags clean left) = Filler size flags clean left
+handshakeOf h (hs.Handshake.Filler p) = fillerOf p
 
 abbrev pub progressOf : List ℕ → pr.Progress → Progress
 progressOf h (pr.Progress.Asking left) = Asking left
@@ -50,7 +55,7 @@ handshakePhase (Newstyle left) = hs.Handshake.Newstyle left
 handshakePhase (Hello left) = hs.Handshake.Hello left
 handshakePhase (Naming left) = hs.Handshake.Naming left
 handshakePhase (SizeAndFlags old got) = hs.Handshake.SizeAndFlags old (length got)
-handshakePhase (Filler size flags clean left) = hs.Handshake.Filler size flags clean left
+handshakePhase (Filler size flags clean left) = hs.Handshake.Filler (record { size = size; flags = flags; clean = clean; left = left })
 
 abbrev pub progressPhase : Progress → pr.Progress
 progressPhase (Asking left) = pr.Progress.Asking left
@@ -105,7 +110,7 @@ usedShaking (hs.Handshake.Newstyle left) = 0
 usedShaking (hs.Handshake.Hello left) = 0
 usedShaking (hs.Handshake.Naming left) = 0
 usedShaking (hs.Handshake.SizeAndFlags old have) = have
-usedShaking (hs.Handshake.Filler size flags clean left) = 0
+usedShaking (hs.Handshake.Filler p) = 0
 
 abbrev pub usedCalling : pr.Progress → ℕ
 usedCalling (pr.Progress.Asking left) = 0

@@ -3,6 +3,7 @@ use crate::idle;
 use crate::state::Client;
 use crate::state::Device;
 use crate::state::Fields;
+use crate::state::Filler;
 use crate::state::Gave;
 use crate::state::Handshake;
 use crate::state::Outcome;
@@ -26,7 +27,6 @@ ghost use Rattle.client.specs.Session.{
   Hello,
   Naming,
   SizeAndFlags,
-  Filler,
   Shaking,
   hello,
   judgeMagic,
@@ -40,7 +40,7 @@ ghost use Rattle.client.specs.Session.{
   judged,
   filler,
 };
-ghost use Rattle.client.specs.View.{viewOf, handshakeOf};
+ghost use Rattle.client.specs.View.{viewOf, fillerOf, handshakeOf};
 ghost use Rattle.machine.specs.Parts.{blank};
 ghost use Rattle.client.specs.Inner.{Some, GoodShaking, Absorbed, Emitted};
 
@@ -133,12 +133,12 @@ fn filler(name: usize, size: u64, flags: u16, clean: bool, left: usize) -> Phase
     } else {
         Phase::Shaking(
             name,
-            Handshake::Filler {
+            Handshake::Filler(Filler {
                 size,
                 flags,
                 clean,
                 left,
-            },
+            }),
         )
     }
 }
@@ -208,23 +208,23 @@ fn judge_size_and_flags(name: usize, old: bool, head: [u8; 16], k: usize) -> Pha
         let flags = (fields::read_u32(&head, 8) % 65536) as u16;
         Phase::Shaking(
             name,
-            Handshake::Filler {
+            Handshake::Filler(Filler {
                 size,
                 flags,
                 clean: true,
                 left: 124,
-            },
+            }),
         )
     } else {
         let flags = fields::read_u16(&head, 8);
         Phase::Shaking(
             name,
-            Handshake::Filler {
+            Handshake::Filler(Filler {
                 size,
                 flags,
                 clean: true,
                 left: 124,
-            },
+            }),
         )
     }
 }
@@ -329,21 +329,13 @@ fn take_size_and_flags(head: [u8; 16], name: usize, old: bool, have: usize, inpu
     }
 }
 
-fn take_filler(
-    head: [u8; 16],
-    name: usize,
-    size: u64,
-    flags: u16,
-    clean: bool,
-    left: usize,
-    input: &[u8],
-) -> Took
-    requires { ⌜ 0 < left ⌝ }
-    ensures { λ r. ⌜ ((m : List ℕ) → Absorbed (Shaking name (Filler size flags clean left)) m (now (input .entry)) r m) ⌝ }
+fn take_filler(head: [u8; 16], name: usize, p: Filler, input: &[u8]) -> Took
+    requires { ⌜ 0 < p .left ⌝ }
+    ensures { λ r. ⌜ ((m : List ℕ) → Absorbed (Shaking name (fillerOf p)) m (now (input .entry)) r m) ⌝ }
 {
-    let n = copy::least(left, input.len());
-    let still = all_zero(clean, &input[..n]);
-    let phase = filler(name, size, flags, still, left - n);
+    let n = copy::least(p.left, input.len());
+    let still = all_zero(p.clean, &input[..n]);
+    let phase = filler(name, p.size, p.flags, still, p.left - n);
     Took {
         state: Client { phase, head },
         taken: n,
@@ -364,12 +356,7 @@ pub fn absorb(head: [u8; 16], name: usize, p: Handshake, input: &[u8]) -> Took
         Handshake::Hello { .. } => idle::takes_none(Phase::Shaking(name, p), head),
         Handshake::Naming { .. } => idle::takes_none(Phase::Shaking(name, p), head),
         Handshake::SizeAndFlags { old, have } => take_size_and_flags(head, name, old, have, input),
-        Handshake::Filler {
-            size,
-            flags,
-            clean,
-            left,
-        } => take_filler(head, name, size, flags, clean, left, input),
+        Handshake::Filler(f) => take_filler(head, name, f, input),
     }
 }
 
@@ -385,6 +372,6 @@ pub fn emit(head: [u8; 16], name: usize, p: Handshake, lent: &[u8], room: &mut [
         Handshake::Hello { left } => send_hello(head, name, left, room),
         Handshake::Naming { left } => send_name(head, name, left, lent, room),
         Handshake::SizeAndFlags { .. } => idle::gives_none(Phase::Shaking(name, p), head),
-        Handshake::Filler { .. } => idle::gives_none(Phase::Shaking(name, p), head),
+        Handshake::Filler(_) => idle::gives_none(Phase::Shaking(name, p), head),
     }
 }

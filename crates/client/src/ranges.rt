@@ -39,7 +39,7 @@ fn ranged_shaking(head: [u8; 16], name: usize, p: Handshake) -> bool
         Handshake::Hello { left } => between(1, 20, left),
         Handshake::Naming { left } => between(1, name, left),
         Handshake::SizeAndFlags { old, have } => if old { have < 12 } else { have < 10 },
-        Handshake::Filler { left, .. } => between(1, 124, left),
+        Handshake::Filler(f) => between(1, 124, f.left),
     }
 }
 
@@ -123,7 +123,7 @@ fn used_shaking(p: Handshake) -> usize
         Handshake::Hello { .. } => 0,
         Handshake::Naming { .. } => 0,
         Handshake::SizeAndFlags { have, .. } => have,
-        Handshake::Filler { .. } => 0,
+        Handshake::Filler(_) => 0,
     }
 }
 

@@ -57,38 +57,27 @@ pub enum Outcome {
     Refused(u8),
 }
 
+// The 124 bytes behind the size and the flags; clean: all were 0 so far.
+pub struct Filler {
+    pub size: u64,
+    pub flags: u16,
+    pub clean: bool,
+    pub left: usize,
+}
+
 // `left`: how many bytes are still to be taken or given. `have`: so many bytes are in `head`.
 pub enum Handshake {
     // the first 8 bytes, and the next 8
-    Magic {
-        have: usize,
-    },
-    Style {
-        have: usize,
-    },
+    Magic { have: usize },
+    Style { have: usize },
     // the flags of a new-style server, which are never judged
-    Newstyle {
-        left: usize,
-    },
+    Newstyle { left: usize },
     // the 20 bytes that are sent before the name, and the name
-    Hello {
-        left: usize,
-    },
-    Naming {
-        left: usize,
-    },
+    Hello { left: usize },
+    Naming { left: usize },
     // the size and the flags, in the old style or in the new
-    SizeAndFlags {
-        old: bool,
-        have: usize,
-    },
-    // the 124 bytes; clean: all were 0 so far
-    Filler {
-        size: u64,
-        flags: u16,
-        clean: bool,
-        left: usize,
-    },
+    SizeAndFlags { old: bool, have: usize },
+    Filler(Filler),
 }
 
 pub enum Progress {

@@ -24,8 +24,8 @@ filler-requires c κs = search needs
 
 returns : tie.Need-returns
 returns c =
-    let a = c .before .before .before .before .before .args in
-    λ m. filler-leaf (a .name) (a .size) (a .flags) (a .clean) (c .before .before .before .before .before .pre) (c .before .before .before .least .ensures) (rw (c .before .all-zero .ensures) at (c .filler .ensures (a .head)))
+    let a = c .before .before .before .before .before .before .args in
+    λ m. filler-leaf (a .name) (a .p .size) (a .p .flags) (a .p .clean) (c .before .before .before .before .before .before .pre) (c .before .before .before .before .least .ensures) (rw (c .before .before .all-zero .ensures) at (c .filler .ensures (a .head)))
 
 pub take-filler-spec : {M : Type 1} → statement M
 take-filler-spec =
