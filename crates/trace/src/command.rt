@@ -1,11 +1,18 @@
 // What a record says, by its letter and its payload.
+use calling::asked::Call;
+use calling::asked::Made;
 use client::state::SeekFrom;
+use lines::places::Step;
+use serving::asked::Head;
+use serving::asked::Serve;
 use wire::fields;
 use wire::number;
 ghost use mathlib.Core.Path.{_≡_};
 ghost use Prim.Native.Nat.{_≤_};
 ghost use lib.ListN.{length};
-ghost use Rattle.trace.specs.Buffers.{Fits, FitsCall, FitsServe};
+ghost use Rattle.serving.specs.Text.{FitsServe};
+ghost use Rattle.calling.specs.Text.{FitsCall};
+ghost use Rattle.trace.specs.Buffers.{Fits};
 
 pub enum Command {
     Change(Change),
@@ -24,48 +31,6 @@ pub enum Change {
     Table(usize),
     Image(usize),
     Slice(usize),
-}
-
-// A step, with a room of so many bytes. The input ends so far behind the payload's start.
-pub struct Step {
-    pub room: usize,
-    pub end: usize,
-}
-
-// A call of the server's: none, a fresh server, a step, the end of input.
-pub enum Serve {
-    Nothing,
-    Fresh,
-    Step(Step),
-    End,
-}
-
-// A call of the client's: none, a fresh client, a step, `q`, or one that moves no byte.
-pub enum Call {
-    Nothing,
-    Fresh,
-    Step(Step),
-    Show,
-    Make(Made),
-}
-
-// A call that moves no byte, with the client's slice.
-pub enum Made {
-    Handshake,
-    End,
-    Read,
-    Write,
-    Flush,
-    Seek(SeekFrom),
-    Trim(u64),
-    Resize(u64),
-}
-
-// `oldstyle_header`
-pub struct Head {
-    pub room: usize,
-    pub size: u64,
-    pub flags: u32,
 }
 
 pub enum Shown {

@@ -3,11 +3,13 @@
 use crate::command::Change;
 use crate::command::Command;
 use crate::command::Shown;
-use crate::print;
-use crate::serving;
+use lines::answer;
+use lines::places::Part;
+use lines::places::Sizes;
 ghost use mathlib.Core.Path.{_≡_};
 ghost use lib.ListN.{length};
-ghost use Rattle.trace.specs.Buffers.{Lent, Sized, Fits, LiesIn};
+ghost use Rattle.lines.specs.Buffers.{Lent, LiesIn};
+ghost use Rattle.trace.specs.Buffers.{Sized, Fits};
 
 pub const STILL: usize = 786432;
 
@@ -15,74 +17,23 @@ pub const LENT: usize = 524288;
 
 pub const ROOM: usize = 262144;
 
-// Where things stand. A slice that starts at a great literal is dear to check, at such an answer it is not.
-
-// The table, in `still`; the client's slice, in `lent`. The payload and the image stand in front of them.
-pub fn second() -> usize
-    ensures { λ r. ⌜ r ≡ 262144 ⌝ }
+fn changed(z: Sizes, k: Change) -> Sizes
+    requires { ⌜ Lent z × Sized k ⌝ }
+    ensures { λ r. ⌜ Lent r ⌝ }
 {
-    262144
-}
-
-// The copy, in `still`.
-pub fn third() -> usize
-    ensures { λ r. ⌜ r ≡ 524288 ⌝ }
-{
-    524288
-}
-
-// How many bytes the table, the image and the client's slice have.
-pub struct Sizes {
-    pub table: usize,
-    pub image: usize,
-    pub slice: usize,
-}
-
-// So many bytes from a place of `lent` on.
-pub struct Part {
-    pub at: usize,
-    pub size: usize,
-}
-
-impl Sizes {
-    fn changed(self, k: Change) -> Sizes
-        requires { ⌜ Lent self × Sized k ⌝ }
-        ensures { λ r. ⌜ Lent r ⌝ }
-    {
-        let mut z = self;
-        match k {
-            Change::Table(n) => {
-                z.table = n;
-            }
-            Change::Image(n) => {
-                z.image = n;
-            }
-            Change::Slice(n) => {
-                z.slice = n;
-            }
+    let mut new = z;
+    match k {
+        Change::Table(n) => {
+            new.table = n;
         }
-        z
-    }
-
-    pub fn image_part(self) -> Part
-        requires { ⌜ Lent self ⌝ }
-        ensures { λ r. ⌜ LiesIn r ⌝ }
-    {
-        Part {
-            at: 0,
-            size: self.image,
+        Change::Image(n) => {
+            new.image = n;
+        }
+        Change::Slice(n) => {
+            new.slice = n;
         }
     }
-
-    pub fn slice_part(self) -> Part
-        requires { ⌜ Lent self ⌝ }
-        ensures { λ r. ⌜ LiesIn r ⌝ }
-    {
-        Part {
-            at: second(),
-            size: self.slice,
-        }
-    }
+    new
 }
 
 // A part of what is lent, and its line.
@@ -91,9 +42,9 @@ fn show_part(word: &[u8], p: Part, lent: &[u8])
 {
     let at = p.at;
     let end = at + p.size;
-    print::text(word);
-    print::hex(&lent[at..end]);
-    print::close(false);
+    lines::text(word);
+    lines::hex(&lent[at..end]);
+    answer::close(false);
 }
 
 // `i` and `b`
@@ -112,12 +63,12 @@ pub fn obey(z: Sizes, c: Command, lent: &[u8], room: &mut [u8]) -> Sizes
     ensures { λ r. ⌜ Lent r ⌝ }
 {
     match c {
-        Command::Change(k) => return z.changed(k),
+        Command::Change(k) => return changed(z, k),
         Command::Serve(_) => {}
         Command::Call(_) => {}
         Command::Head(k) => serving::head(k, room),
         Command::Show(k) => show(z, k, lent),
-        Command::Bad => print::text(b"bad script\n"),
+        Command::Bad => lines::text(b"bad script\n"),
         Command::Over => {}
     }
     z

@@ -1,18 +1,15 @@
 // Reads a script on standard input, makes the calls that it names, and writes a line for each call that answers.
-mod calling;
 mod command;
 mod host;
-mod print;
 mod record;
-mod room;
-mod serving;
 
 use client::state::Client;
 use command::Command;
 use host::LENT;
 use host::ROOM;
 use host::STILL;
-use host::Sizes;
+use lines::places;
+use lines::places::Sizes;
 use record::Record;
 use server::state::Server;
 ghost use mathlib.Core.Path.{_≡_};
@@ -25,9 +22,9 @@ fn store(letter: u8, size: usize, still: &mut [u8], lent: &mut [u8]) -> bool
     requires { ⌜ (size ≤ 262144) × (length (now still) ≡ 786432) × (length (now lent) ≡ 524288) ⌝ }
 {
     match letter {
-        b'T' => record::payload(still, host::second(), size),
+        b'T' => record::payload(still, places::second(), size),
         b'I' => record::payload(lent, 0, size),
-        b'B' => record::payload(lent, host::second(), size),
+        b'B' => record::payload(lent, places::second(), size),
         _ => record::payload(still, 0, size),
     }
 }

@@ -1,7 +1,7 @@
 -- The number of turns falls, and each turn leaves what is lent within its buffers.
 use native.Mathlib.Omega.{arith}
 use borrow.Author.Needs.{needs}
-use Rattle.trace.specs.Buffers.{Lent}
+use Rattle.lines.specs.Buffers.{Lent}
 use Rattle.trace.proofs.obey_all.Statement.{statement}
 use Rattle.trace.proofs.obey_all.Tie as tie
 
