@@ -6,7 +6,7 @@ use libc::STDOUT_FILENO;
 use machine::copy;
 use server::state::Server;
 use wire::fields;
-ghost use Prim.Native.Nat.{_+_, _*_, _≤_};
+ghost use Prim.Native.Nat.{_+_, _*_};
 ghost use mathlib.Core.Path.{_≡_};
 ghost use lib.ListN.{length};
 

@@ -15,7 +15,7 @@ use wire::table::Export;
 ghost use mathlib.Core.Path.{_≡_};
 ghost use mathlib.Core.Bool.{not};
 ghost use mathlib.Core.List.{List};
-ghost use Prim.Native.Nat.{ℕ, _+_};
+ghost use Prim.Native.Nat.{ℕ};
 ghost use lib.Dec.{eqb, ltb, leb};
 ghost use Rattle.machine.specs.Choice.{pick, both, either, between};
 ghost use Rattle.wire.specs.Constants.{NBD-OPT-EXPORT-NAME, NBD-EPERM, NBD-ENOSPC};

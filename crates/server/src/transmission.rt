@@ -15,10 +15,9 @@ use wire::fields;
 use wire::table::Export;
 ghost use mathlib.Core.Path.{_≡_};
 ghost use mathlib.Core.Bool.{true};
-ghost use mathlib.Core.List.{List, []};
+ghost use mathlib.Core.List.{List};
 ghost use Prim.Native.Nat.{ℕ, _+_, _-_, _<_, _≤_};
 ghost use lib.ListN.{length, take};
-ghost use lib.Seq.{paste};
 ghost use Rattle.wire.specs.Layouts.{simpleReply};
 ghost use Rattle.server.specs.Session.{
   Header,

@@ -7,7 +7,6 @@ use serving::asked::Head;
 use serving::asked::Serve;
 use wire::fields;
 use wire::number;
-ghost use mathlib.Core.Path.{_≡_};
 ghost use Prim.Native.Nat.{_≤_};
 ghost use lib.ListN.{length};
 ghost use Rattle.serving.specs.Text.{FitsServe};
