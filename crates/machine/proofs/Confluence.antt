@@ -69,9 +69,9 @@ module _ {C S : Type 0} {turnC : C → Turn C} {turnS : S → Turn S} {cu cd : �
   pub rejoin : {a b : Traffic} {x y t : Sys C S} → Exec turnC turnS cu cd a x t → Stuck turnC turnS cu cd t → Exec turnC turnS cu cd b x y
       → (c : Traffic) × (a ≡ append b c) × Exec turnC turnS cu cd c y t
   rejoin {a = a} e h done = (a, refl, e)
-  rejoin e h (next {a = m} {b = n} q r) =
+  rejoin {a = a} {t = t} e h (next {a = m} {b = n} q r) =
       let s = strip e h q in
-      let i = rejoin s.2 h r in
+      let i = rejoin {a = s.0} s.2 h r in
       (i.0, s.1 ∙ ap (append m) i.1 ∙ sym (append_append m n i.0), i.2)
 
   pub progress : {a : Traffic} {x t : Sys C S} → Exec turnC turnS cu cd a x t

@@ -5,8 +5,7 @@ use mathlib.Core.Bool.{Bool, true, false}
 use native.Mathlib.Omega.{arith}
 use borrow.Author.Tests.{le-leb, lt-leb, leb-true, leb-false}
 use lib.Dec.{leb}
-use Rattle.machine.proofs.tests.within.Statement.{statement}
-use Rattle.machine.proofs.tests.within.Tie as tie
+use Rattle.machine.proofs.tests.within.Goals as goal
 
 by_difference : (a b n : ℕ) → b ≤ n → leb a (n - b) ≡ leb (a + b) n
 by_difference a b n h = go (leb a (n - b)) refl
@@ -15,14 +14,11 @@ by_difference a b n h = go (leb a (n - b)) refl
     go true e = e ∙ sym (le-leb (a + b) n (omega (arith, leb-true a (n - b) e)))
     go false e = e ∙ sym (lt-leb (a + b) n (omega (arith, leb-false a (n - b) e)))
 
-returns : tie.Need-returns
-returns c = by_difference _ _ _ c.if1.true
+pub returns-then-b-n : goal.returns-then-b-n
+returns-then-b-n c = by_difference _ _ _ c.if-b-n.true
 
-returns-2 : tie.Need-returns-2
-returns-2 c =
-    let a = c.before.args in
-    let h : a.n < a.a + a.b = omega (arith, c.if1.false) in
+pub returns-else-b-n : goal.returns-else-b-n
+returns-else-b-n c =
+    let a = c.args in
+    let h : a.n < a.a + a.b = omega (arith, c.if-b-n.false) in
     sym (lt-leb _ _ h)
-
-pub within-spec : {M : Type 1} → statement M
-within-spec = tie.close (tie.spec returns returns-2)
