@@ -3,7 +3,7 @@ use client::state::SeekFrom;
 use lines::places::Step;
 
 // A call of the client's: none, a fresh client, a step, `q`, or one that moves no byte.
-#[derive(Drop)]
+#[derive(Clone, Copy)]
 pub enum Call {
     Nothing,
     Fresh,
@@ -13,7 +13,7 @@ pub enum Call {
 }
 
 // A call that moves no byte, with the client's slice.
-#[derive(Drop)]
+#[derive(Clone, Copy)]
 pub enum Made {
     Handshake,
     End,

@@ -22,7 +22,7 @@ use wire::number::Added;
 use wire::{consts, fields, number};
 
 // How many bytes a call moves, or that the position is past the size.
-#[derive(Drop)]
+#[derive(Clone, Copy)]
 pub enum Span {
     Bytes(u32),
     Past,

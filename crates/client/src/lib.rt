@@ -35,13 +35,13 @@ use calls::Span;
 use state::{Call, Client, Device, Handshake, Outcome, Phase, Progress, SeekFrom, Value};
 use wire::number::Added;
 
-#[derive(Drop)]
+#[derive(Clone, Copy)]
 pub struct Called {
     pub state: Client,
     pub outcome: Outcome,
 }
 
-#[derive(Drop)]
+#[derive(Clone, Copy)]
 pub struct Stepped {
     pub state: Client,
     pub taken: usize,
@@ -50,7 +50,7 @@ pub struct Stepped {
 }
 
 // What a user may ask of a client.
-#[derive(Drop)]
+#[derive(Clone, Copy)]
 pub enum Info {
     Known(Device),
     // before the handshake is closed, and after an end
@@ -58,14 +58,14 @@ pub enum Info {
 }
 
 // Whether a call may be made: on this device, or not, with 01's number.
-#[derive(Drop)]
+#[derive(Clone, Copy)]
 pub enum CallCheck {
     On(Device),
     Not(u8),
 }
 
 // How many bytes a call may move on this device, or none, with 01's number.
-#[derive(Drop)]
+#[derive(Clone, Copy)]
 pub enum Transfer {
     Bytes(Device, u32),
     No(u8),

@@ -1,7 +1,7 @@
 // Where a session stands. The phases are named as in specs/Session.antt; docs/STATES.md has their ranges.
 
 // What the export's flags say.
-#[derive(Drop)]
+#[derive(Clone, Copy)]
 pub struct Fields {
     pub readonly: bool,
     pub resizeable: bool,
@@ -11,7 +11,7 @@ pub struct Fields {
 }
 
 // What a client knows of the device that it is connected to.
-#[derive(Drop)]
+#[derive(Clone, Copy)]
 pub struct Device {
     pub size: u64,
     pub position: u64,
@@ -19,7 +19,7 @@ pub struct Device {
 }
 
 // An open call. `n`: how many bytes it moves. `len`: the whole buffer's length.
-#[derive(Drop)]
+#[derive(Clone, Copy)]
 pub enum Call {
     Read { n: u32, len: usize },
     Write { n: u32, len: usize },
@@ -30,7 +30,7 @@ pub enum Call {
 }
 
 // Where a seek starts, and how far it goes.
-#[derive(Drop)]
+#[derive(Clone, Copy)]
 pub enum SeekFrom {
     Start(u64),
     Current(i64),
@@ -38,7 +38,7 @@ pub enum SeekFrom {
 }
 
 // What a success gives.
-#[derive(Drop)]
+#[derive(Clone, Copy)]
 pub enum Value {
     // a handshake: the size and the five fields
     Opened(u64, Fields),
@@ -50,7 +50,7 @@ pub enum Value {
     Nothing,
 }
 
-#[derive(Drop)]
+#[derive(Clone, Copy)]
 pub enum Outcome {
     // a call or the handshake is open, or there is nothing to do
     Open,
@@ -64,7 +64,7 @@ pub enum Outcome {
 }
 
 // The 124 bytes behind the size and the flags; clean: all were 0 so far.
-#[derive(Drop)]
+#[derive(Clone, Copy)]
 pub struct Filler {
     pub size: u64,
     pub flags: u16,
@@ -73,7 +73,7 @@ pub struct Filler {
 }
 
 // `left`: how many bytes are still to be taken or given. `have`: so many bytes are in `head`.
-#[derive(Drop)]
+#[derive(Clone, Copy)]
 pub enum Handshake {
     // the first 8 bytes, and the next 8
     Magic { have: usize },
@@ -88,7 +88,7 @@ pub enum Handshake {
     Filler(Filler),
 }
 
-#[derive(Drop)]
+#[derive(Clone, Copy)]
 pub enum Progress {
     // a request is owed
     Asking { left: usize },
@@ -100,7 +100,7 @@ pub enum Progress {
     Filling { left: usize },
 }
 
-#[derive(Drop)]
+#[derive(Clone, Copy)]
 pub enum Phase {
     // no handshake yet
     Blank,
@@ -115,7 +115,7 @@ pub enum Phase {
 }
 
 // The bytes of `head` that the phase does not use are 0.
-#[derive(Drop)]
+#[derive(Clone, Copy)]
 pub struct Client {
     pub phase: Phase,
     pub head: [u8; 16],
@@ -123,19 +123,19 @@ pub struct Client {
 
 // ---- what the parts of a step answer
 
-#[derive(Drop)]
+#[derive(Clone, Copy)]
 pub struct Took {
     pub state: Client,
     pub taken: usize,
 }
 
-#[derive(Drop)]
+#[derive(Clone, Copy)]
 pub struct Gave {
     pub state: Client,
     pub given: usize,
 }
 
-#[derive(Drop)]
+#[derive(Clone, Copy)]
 pub struct Moved {
     pub state: Client,
     pub taken: usize,

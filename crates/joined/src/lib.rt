@@ -8,7 +8,7 @@ use machine::copy;
 use server::state::Server;
 
 // How many bytes stand on the wires, and how much of them a move may use: up to `piece` bytes in, up to `room` bytes out.
-#[derive(Drop)]
+#[derive(Clone, Copy)]
 pub struct Offer {
     pub ups: usize,
     pub downs: usize,
@@ -17,7 +17,7 @@ pub struct Offer {
 }
 
 // What the client's move did, and how many bytes stand on the wires after it.
-#[derive(Drop)]
+#[derive(Clone, Copy)]
 pub struct ClientMoved {
     pub step: client::Stepped,
     pub ups: usize,
@@ -25,7 +25,7 @@ pub struct ClientMoved {
 }
 
 // What the server's move did, and how many bytes stand on the wires after it.
-#[derive(Drop)]
+#[derive(Clone, Copy)]
 pub struct ServerMoved {
     pub step: server::Stepped,
     pub ups: usize,

@@ -2,7 +2,7 @@
 use crate::{hex, number, text};
 
 // What a call answered.
-#[derive(Drop)]
+#[derive(Clone, Copy)]
 pub enum Answer {
     // without a number: the session goes on, or the call is open
     On,

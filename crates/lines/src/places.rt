@@ -19,7 +19,7 @@ pub fn third() -> usize
 }
 
 // How many bytes the table, the image and the client's slice have.
-#[derive(Drop)]
+#[derive(Clone, Copy)]
 pub struct Sizes {
     pub table: usize,
     pub image: usize,
@@ -27,14 +27,14 @@ pub struct Sizes {
 }
 
 // So many bytes from a place of `lent` on.
-#[derive(Drop)]
+#[derive(Clone, Copy)]
 pub struct Part {
     pub at: usize,
     pub size: usize,
 }
 
 // A step, with a room of so many bytes. The input ends so far behind the payload's start.
-#[derive(Drop)]
+#[derive(Clone, Copy)]
 pub struct Step {
     pub room: usize,
     pub end: usize,

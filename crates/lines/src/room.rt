@@ -11,7 +11,7 @@ use machine::copy;
 use wire::fields;
 
 // What a call answered, and how many bytes it took and gave.
-#[derive(Drop)]
+#[derive(Clone, Copy)]
 pub struct Moved {
     pub answer: Answer,
     pub taken: usize,

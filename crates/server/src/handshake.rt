@@ -84,7 +84,7 @@ fn take_flags(head: [u8; 28], have: usize, input: &[u8]) -> Took
 // ---- what each phase owes, and where it goes
 
 // A reply: the first `len` of these bytes, and its last `left` bytes are owed.
-#[derive(Drop)]
+#[derive(Clone, Copy)]
 pub struct Reply {
     pub bytes: [u8; 134],
     pub len: usize,

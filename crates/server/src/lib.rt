@@ -16,7 +16,7 @@ ghost use Rattle.server.specs.Contract.{cut_off, Serves, Closes};
 
 use state::{Handshake, Outcome, Phase, Server};
 
-#[derive(Drop)]
+#[derive(Clone, Copy)]
 pub struct Stepped {
     pub state: Server,
     pub taken: usize,
@@ -24,7 +24,7 @@ pub struct Stepped {
     pub outcome: Outcome,
 }
 
-#[derive(Drop)]
+#[derive(Clone, Copy)]
 pub struct InputEnded {
     pub state: Server,
     pub outcome: Outcome,

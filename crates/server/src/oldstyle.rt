@@ -6,7 +6,7 @@ ghost use Rattle.server.specs.Contract.{Heads};
 use machine::copy;
 use wire::{consts, fields};
 
-#[derive(Drop)]
+#[derive(Clone, Copy)]
 pub enum HeaderAnswer {
     // the room's first 152 bytes are the header
     Written,

@@ -7,7 +7,7 @@ use machine::tests::within;
 use wire::table::Export;
 use wire::{consts, fields};
 
-#[derive(Drop)]
+#[derive(Clone, Copy)]
 pub struct Request {
     pub typ: u16,
     pub handle: u64,
@@ -15,7 +15,7 @@ pub struct Request {
     pub len: u32,
 }
 
-#[derive(Drop)]
+#[derive(Clone, Copy)]
 pub enum Answer {
     Silence,
     // a reply with this error, 0 for none

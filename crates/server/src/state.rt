@@ -3,7 +3,7 @@ use wire::table::Export;
 use wire::utf8::Utf8;
 
 // `zeroes`: whether the reply to EXPORT_NAME ends in 124 zero bytes. `left`: how many bytes are still to be taken or given.
-#[derive(Drop)]
+#[derive(Clone, Copy)]
 pub enum Handshake {
     Greeting {
         left: usize,
@@ -51,7 +51,7 @@ pub enum Handshake {
     },
 }
 
-#[derive(Drop)]
+#[derive(Clone, Copy)]
 pub enum Transmission {
     // so many bytes of a request are in `head`
     Header {
@@ -84,7 +84,7 @@ pub enum Transmission {
     },
 }
 
-#[derive(Drop)]
+#[derive(Clone, Copy)]
 pub enum Phase {
     Shaking(Handshake),
     Serving(Export, Transmission),
@@ -92,7 +92,7 @@ pub enum Phase {
 }
 
 // The bytes of `head` that the phase does not use are 0.
-#[derive(Drop)]
+#[derive(Clone, Copy)]
 pub struct Server {
     pub phase: Phase,
     pub head: [u8; 28],
@@ -100,7 +100,7 @@ pub struct Server {
 
 // ---- what a call answers
 
-#[derive(Drop)]
+#[derive(Clone, Copy)]
 pub enum Outcome {
     GoingOn,
     // with 01's number, now or before
@@ -111,19 +111,19 @@ pub enum Outcome {
 
 // ---- what the parts of a step answer
 
-#[derive(Drop)]
+#[derive(Clone, Copy)]
 pub struct Took {
     pub state: Server,
     pub taken: usize,
 }
 
-#[derive(Drop)]
+#[derive(Clone, Copy)]
 pub struct Gave {
     pub state: Server,
     pub given: usize,
 }
 
-#[derive(Drop)]
+#[derive(Clone, Copy)]
 pub struct Moved {
     pub state: Server,
     pub taken: usize,

@@ -2,7 +2,7 @@
 use lines::places::Step;
 
 // A call of the server's: none, a fresh server, a step, the end of input.
-#[derive(Drop)]
+#[derive(Clone, Copy)]
 pub enum Serve {
     Nothing,
     Fresh,
@@ -11,7 +11,7 @@ pub enum Serve {
 }
 
 // `oldstyle_header`
-#[derive(Drop)]
+#[derive(Clone, Copy)]
 pub struct Head {
     pub room: usize,
     pub size: u64,

@@ -44,6 +44,7 @@ ends_run s (b ∷ e) p = ends_run (next s b) e (ends_next p)
 
 char_run : (c : List ℕ) → Char c → run Start c ≡ Start
 unfolding next
+char_run [] p = elim p [ ]
 char_run (a ∷ e) p = ends_run (lead a) e (char_lead p)
 
 octets_run : {l : List ℕ} → Octets l → run Start l ≡ Start

@@ -9,14 +9,14 @@ use crate::fields;
 use crate::table::{Entry, Front, MAX_RECORDS, front_at};
 
 // The number of the export that fits, if one does.
-#[derive(Drop)]
+#[derive(Clone, Copy)]
 pub enum Chosen {
     Export(usize),
     Nothing,
 }
 
 // A set that is made record by record: the digits of the old one that are left, the next one's weight, and what is known of the new one.
-#[derive(Drop)]
+#[derive(Clone, Copy)]
 struct Sieve {
     left: u32,
     weight: u64,

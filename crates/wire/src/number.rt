@@ -3,7 +3,7 @@ ghost use Rattle.std.specs.Prelude.{◌≡◌};
 ghost use Rattle.wire.specs.Numbers.{clamped, added, twos, sum_of};
 
 // A sum, where there is one.
-#[derive(Drop)]
+#[derive(Clone, Copy)]
 pub enum Added {
     Sum(u64),
     Outside,

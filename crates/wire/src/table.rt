@@ -17,7 +17,7 @@ use machine::tests::within;
 pub const MAX_RECORDS: usize = 32;
 
 // What is wrong with a table first, if anything is: 01's numbers 20 to 25.
-#[derive(Drop)]
+#[derive(Clone, Copy)]
 pub enum Checked {
     Sound,
     // 20: the version byte
@@ -52,7 +52,7 @@ impl Checked {
 }
 
 // An export's window and its table flags.
-#[derive(Drop)]
+#[derive(Clone, Copy)]
 pub struct Export {
     pub start: u64,
     pub size: u64,
@@ -60,7 +60,7 @@ pub struct Export {
 }
 
 // A record, by its places in the table.
-#[derive(Drop)]
+#[derive(Clone, Copy)]
 pub struct Entry {
     pub export: Export,
     // where its name begins, and how long it is
@@ -71,7 +71,7 @@ pub struct Entry {
 }
 
 // What stands at a place of a table.
-#[derive(Drop)]
+#[derive(Clone, Copy)]
 pub enum Front {
     End,
     // a length field that is cut, out of range or past the end
@@ -121,7 +121,7 @@ pub fn front_at(table: &[u8], at: usize) -> Front
 }
 
 // How the check of a table goes on: an answer, or the place of the next record.
-#[derive(Drop)]
+#[derive(Clone, Copy)]
 enum Judged {
     Stop(Checked),
     Go(usize),

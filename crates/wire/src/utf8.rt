@@ -4,7 +4,7 @@ ghost use Rattle.machine.specs.Choice.{pick, between};
 ghost use Rattle.wire.specs.Utf8.{lead, next, run, whole};
 
 // Where a text stands after the bytes so far.
-#[derive(Drop)]
+#[derive(Clone, Copy)]
 pub enum Utf8 {
     // between two characters
     Start,
