@@ -1,4 +1,6 @@
 // An NBD client without sockets: the host lends slices, and hands a state in and gets it back.
+#![tactic(auto)]
+
 mod calls;
 mod handshake;
 mod idle;

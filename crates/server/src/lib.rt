@@ -1,4 +1,6 @@
 // An NBD server without sockets: the host keeps the wire, lends slices, and hands a state in and gets it back.
+#![tactic(auto)]
+
 mod handshake;
 mod idle;
 pub mod oldstyle;
