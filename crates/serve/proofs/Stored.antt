@@ -188,7 +188,7 @@ module _ {t m m' : List ℕ} {y : State} (n : ℕ) where
   stored_apart e handle off (suc left) is g h p =
       let b = (storing_bounds e off (suc left) (good_serving g).0).1 in
       let w = (good_serving g).1 in
-      let cut = cut_inside_write {t = t} {m = m} {m' = m'} {is = is} {os = []} {y = y} e handle off (suc left) p h (omega (arith, b, w)) in
+      let cut = cut_inside_write t {m = m} {m' = m'} {is = is} {os = []} {y = y} e handle off (suc left) p h (omega (arith, b, w)) in
       let front : length (take (e.start + off) m) ≡ e.start + off = length-take-le (e.start + off) m (omega (arith, b, w)) in
       record {
         before = rw (cut, append_assoc) (take_at (take (e.start + off) m) (is ++ drop (e.start + off + length is) m) (e.start + off) front);
@@ -240,7 +240,7 @@ module _ {s : Server} {t m room : List ℕ} {r : Stepped} {m' room' : List ℕ} 
   none_taken zero e =
       let g = (served.accepts e).steps.goes in
       let z : r.taken ≡ 0 = omega (arith, g.within_input) in
-      giving_writes_nothing (rw z) g.moves
+      giving_writes_nothing t (rw z) g.moves
 
   pub gives_nothing : m' ≡ m
   gives_nothing = none_taken (refusal t (length m) s) refl

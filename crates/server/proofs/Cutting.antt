@@ -21,7 +21,7 @@ use Rattle.server.specs.History.{Calls, done, call}
 use Rattle.server.specs.declared.state.Server.{Server}
 use Rattle.server.specs.declared.Stepped.{Stepped}
 
-module _ {t : List ℕ} where
+module _ (t : List ℕ) where
   pub session_cutting : {x y z : State} {m m' m'' stream os ps rest rest' : List ℕ}
       → Session (turn t) (on x m) stream os (on y m') rest → Finished (turn t (on y m')) rest
       → Session (turn t) (on x m) stream ps (on z m'') rest' → Finished (turn t (on z m'')) rest'
@@ -31,6 +31,7 @@ module _ {t : List ℕ} where
       let s : on y m' ≡ on z m'' = ap (λ (r : Ran (On State)). r.stands) e in
       (ap (λ (r : Ran (On State)). r.given) e, cc, cc, ap (λ (r : Ran (On State)). r.rest) e)
 
+module _ {t : List ℕ} where
   pub calls_session : {s z : Server} {m stream given m' rest : List ℕ} → Calls t s m stream given z m' rest
       → Session (turn t) (on (view s) m) stream given (on (view z) m') rest
   calls_session done = over
@@ -45,7 +46,7 @@ module _ {t : List ℕ} where
       → Calls t s m stream ps z m'' rest' → Finished (turn t (on (view z) m'')) rest'
       → (os ≡ ps) × (y ≡ z) × (m' ≡ m'') × (rest ≡ rest')
   cutting h p f q g =
-      let e = session_cutting (calls_session p) f (calls_session q) g in
+      let e = session_cutting t (calls_session p) f (calls_session q) g in
       (e.0, one_struct_kept p h ∙ ap code e.1 ∙ sym (one_struct_kept q h), e.2, e.3)
 
   pub last_finishes : {s : Server} {m stream room m' room' : List ℕ} {r : Stepped} → refusal t (length m) s ≡ 0

@@ -121,7 +121,7 @@ module _ (t m : List ℕ) (z : Bool) where
     pub whole_export : (k : ℕ) → valid name ≡ true → First (records t) name k
         → Moves (turn t) (on ready m) (option_request NBD_OPT_EXPORT_NAME name) (export_reply (export_at t k).size (wire_flags (export_at t k).flags) z) (on (Serving (export_at t k) (Header [])) m)
     unfolding named
-    whole_export k text f = and_gives (rw (text, (found_first (records t) name (records_few t) k).1 f) at name_taken) (exported_given t m z (export_at t k))
+    whole_export k text f = and_gives t (rw (text, (found_first (records t) name (records_few t) k).1 f) at name_taken) (exported_given t m z (export_at t k))
 
     pub whole_export_not_text : valid name ≡ false → Moves (turn t) (on ready m) (option_request NBD_OPT_EXPORT_NAME name) [] (on (Over 5) m)
     unfolding named
@@ -143,7 +143,7 @@ module _ (t m : List ℕ) (z : Bool) where
 
     pub whole_abort : Moves (turn t) (on ready m) (option_request NBD_OPT_ABORT data') (option_reply NBD_OPT_ABORT NBD_REP_ACK []) (on (Over 7) m)
     unfolding answered
-    whole_abort = and_gives (passed NBD_OPT_ABORT (omega arith) (λ e. omega arith)) (aborted_given t m)
+    whole_abort = and_gives t (passed NBD_OPT_ABORT (omega arith) (λ e. omega arith)) (aborted_given t m)
 
     pub whole_list_payload : 0 < length data' → Moves (turn t) (on ready m) (option_request NBD_OPT_LIST data') [] (on (Over 4) m)
     unfolding answered
@@ -165,7 +165,7 @@ module _ (t m : List ℕ) (z : Bool) where
     pub whole_unsupported : (option : ℕ) → Unsupported option
         → Moves (turn t) (on ready m) (option_request option data') (option_reply option NBD_REP_ERR_UNSUP []) (on ready m)
     unfolding answered
-    whole_unsupported option u = and_gives (answers (declines u)) (declined_given t m z option)
+    whole_unsupported option u = and_gives t (answers (declines u)) (declined_given t m z option)
       where
         declines : Unsupported option → Answers option (Shaking (Declining z option 20))
         declines (inl e) = record { fits = omega arith; other = λ q. omega arith; leads = rw e }
@@ -201,7 +201,7 @@ module _ (t m : List ℕ) (z : Bool) where
   pub whole_list : Moves (turn t) (on ready m) (option_request NBD_OPT_LIST [])
       (option_reply NBD_OPT_LIST NBD_REP_SERVER (be 4 7 ++ rustnbd) ++ option_reply NBD_OPT_LIST NBD_REP_ACK []) (on ready m)
   unfolding answered list_replies
-  whole_list = and_gives (passed [] (omega arith) NBD_OPT_LIST (omega arith) (λ e. omega arith)) (list_given t m z)
+  whole_list = and_gives t (passed [] (omega arith) NBD_OPT_LIST (omega arith) (λ e. omega arith)) (list_given t m z)
 
 -- ---- a whole handshake, as our client makes it: the greeting, flags 1 and one option
 pub whole_handshake : (t m name : List ℕ) (k : ℕ) → length name ≤ 100000 → valid name ≡ true → First (records t) name k

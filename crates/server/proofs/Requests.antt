@@ -79,19 +79,19 @@ module _ (t m : List ℕ) (e : Export) where
       pub whole_read_past : e.size < offset + len → Moves (turn t) (on ready m) (request flags NBD_CMD_READ handle offset len) (simple_reply NBD_EINVAL handle) (on ready m)
       unfolding owed
       whole_read_past h =
-          and_gives (owed_begins flags (fields (omega arith) len_fits) (Reply NBD_EINVAL) (rw (some_length, lt-ltb e.size (offset + len) h))) (reply_given t m e NBD_EINVAL handle 0 0)
+          and_gives t (owed_begins flags (fields (omega arith) len_fits) (Reply NBD_EINVAL) (rw (some_length, lt-ltb e.size (offset + len) h))) (reply_given t m e NBD_EINVAL handle 0 0)
 
       pub whole_read : offset + len ≤ e.size → e.start + e.size ≤ length m
           → Moves (turn t) (on ready m) (request flags NBD_CMD_READ handle offset len) (simple_reply 0 handle ++ take len (drop offset (window e m))) (on ready m)
       unfolding owed
       whole_read h inside =
-          and_gives (owed_begins flags (fields (omega arith) len_fits) Data (rw (some_length, le-ltb e.size (offset + len) h)))
+          and_gives t (owed_begins flags (fields (omega arith) len_fits) Data (rw (some_length, le-ltb e.size (offset + len) h)))
           (then (reply_given t m e 0 handle offset len) (data_given t m e offset len (rw (window_length e m inside) h)))
 
     -- ---- WRITE: "on a read_only export error 1; else length 0 gives 0; else past the window error 28. The whole payload is taken before any reply."
     pub whole_write_nothing : read_only e.flags ≡ false → Moves (turn t) (on ready m) (request flags NBD_CMD_WRITE handle offset 0) (simple_reply 0 handle) (on ready m)
     unfolding owed
-    whole_write_nothing w = and_gives (owed_begins flags (fields (omega arith) (omega arith)) (Reply 0) (rw w)) (reply_given t m e 0 handle 0 0)
+    whole_write_nothing w = and_gives t (owed_begins flags (fields (omega arith) (omega arith)) (Reply 0) (rw w)) (reply_given t m e 0 handle 0 0)
 
     module _ (payload : List ℕ) (len_fits : length payload < 2 ^ 32) where
       pub whole_write_read_only : read_only e.flags ≡ true
@@ -122,15 +122,15 @@ module _ (t m : List ℕ) (e : Export) where
 
       pub whole_flush : Moves (turn t) (on ready m) (request flags NBD_CMD_FLUSH handle offset len) (simple_reply 0 handle) (on ready m)
       unfolding owed
-      whole_flush = and_gives (owed_begins flags (fields (omega arith) len_fits) (Reply 0) refl) (reply_given t m e 0 handle 0 0)
+      whole_flush = and_gives t (owed_begins flags (fields (omega arith) len_fits) (Reply 0) refl) (reply_given t m e 0 handle 0 0)
 
       pub whole_trim : Moves (turn t) (on ready m) (request flags NBD_CMD_TRIM handle offset len) (simple_reply NBD_ENOSYS handle) (on ready m)
       unfolding owed
-      whole_trim = and_gives (owed_begins flags (fields (omega arith) len_fits) (Reply NBD_ENOSYS) refl) (reply_given t m e NBD_ENOSYS handle 0 0)
+      whole_trim = and_gives t (owed_begins flags (fields (omega arith) len_fits) (Reply NBD_ENOSYS) refl) (reply_given t m e NBD_ENOSYS handle 0 0)
 
       pub whole_write_zeroes : Moves (turn t) (on ready m) (request flags NBD_CMD_WRITE_ZEROES handle offset len) (simple_reply NBD_ENOSYS handle) (on ready m)
       unfolding owed
-      whole_write_zeroes = and_gives (owed_begins flags (fields (omega arith) len_fits) (Reply NBD_ENOSYS) refl) (reply_given t m e NBD_ENOSYS handle 0 0)
+      whole_write_zeroes = and_gives t (owed_begins flags (fields (omega arith) len_fits) (Reply NBD_ENOSYS) refl) (reply_given t m e NBD_ENOSYS handle 0 0)
 
       ends : (type : ℕ) → UnknownType type → owed e (asked type handle offset len) ≡ End 11
       unfolding owed

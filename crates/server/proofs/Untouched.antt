@@ -274,17 +274,17 @@ chose {t} {m} {m'} {is} {os} {x} {y} g (by_choice z k w) = go (some_record t k (
     go (inl l) = inr record { number = k; listed = l; zeroes = z; way = w; only = passed t k g w }
     go (inr q) = inl q
 
-module _ {t m m' is os : List ℕ} {y : State} where
-  rested : {n : ℕ} → Moves (turn t) (on (Over n) m) is os (on y m') → m' ≡ m
-  rested {n} r = let s = (resting {x = on (Over n) m} refl r).2 in cc
+rested : (t : List ℕ) {m m' is os : List ℕ} {y : State} {n : ℕ} → Moves (turn t) (on (Over n) m) is os (on y m') → m' ≡ m
+rested t {m} {n = n} r = let s = (resting {x = on (Over n) m} refl r).2 in cc
 
+module _ {t m m' is os : List ℕ} {y : State} where
   from_none : (x : State) → ((e : Export) → Has x e → ⊥) → Good t (length m) x → Moves (turn t) (on x m) is os (on y m') → (m' ≡ m) ⊎ Chose t m x is os y m'
   from_none (Shaking p) h g r = chose g (followed t m (on_way p h) r)
   from_none (Serving e p) h g r = absurd (h e served)
-  from_none (Over n) h g r = inl (rested r)
+  from_none (Over n) h g r = inl (rested t r)
 
   pub moves_untouched : {x : State} → Good t (length m) x → Moves (turn t) (on x m) is os (on y m') → Untouched t m x is os y m'
-  moves_untouched {x} g r = record { had = only g r; had_none = λ h. from_none x h g r; ended = λ q. rested (rw q at r) }
+  moves_untouched {x} g r = record { had = only g r; had_none = λ h. from_none x h g r; ended = λ q. rested t (rw q at r) }
 
 pub step_untouched : {self : Server} {t m input room : List ℕ} {r : Stepped} {m' room' : List ℕ} → Serves self t m input room r m' room'
     → Untouched t m (view self) (take r.taken input) (take r.given room') (view r.state) m'

@@ -23,8 +23,8 @@ use Rattle.server.specs.Session.{window, greeted, listing, declining, aborting, 
 use Rattle.server.proofs.Left.{exporting_more}
 use Rattle.server.proofs.Session.{each_owed, each_sent, length_greeting, length_list, length_option, length_exported, length_reply}
 
-pub and_gives : {t is os : List ℕ} {x y z : On State} → Moves (turn t) x is [] y → Moves (turn t) y [] os z → Moves (turn t) x is os z
-and_gives {is = is} p q = rw append-nil at (then p q)
+pub and_gives : (t : List ℕ) {is os : List ℕ} {x y z : On State} → Moves (turn t) x is [] y → Moves (turn t) y [] os z → Moves (turn t) x is os z
+and_gives t {is = is} p q = rw append-nil at (then p q)
 
 module _ (t m : List ℕ) where
   -- ---- what is given

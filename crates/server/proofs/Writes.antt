@@ -30,12 +30,12 @@ module _ (t m : List ℕ) (e : Export) where
   pub payload_dropped : (error handle : ℕ) (payload : List ℕ)
       → Moves (turn t) (on (dropping e error handle (length payload)) m) payload (simple_reply error handle) (on (Serving e (Header [])) m)
   payload_dropped error handle payload =
-      and_gives (drops (turn t) (dropping e error handle) (each_dropped t e error handle) payload (length payload) 0 m (omega arith)) (reply_given t m e error handle 0 0)
+      and_gives t (drops (turn t) (dropping e error handle) (each_dropped t e error handle) payload (length payload) 0 m (omega arith)) (reply_given t m e error handle 0 0)
 
   pub payload_stored : (handle offset : ℕ) (payload : List ℕ)
       → Moves (turn t) (on (storing e handle offset (length payload)) m) payload (simple_reply 0 handle) (on (Serving e (Header [])) (sets m (e.start + offset) payload))
   payload_stored handle offset payload =
-      and_gives (stored t e handle payload offset (length payload) 0 (offset + length payload) m (omega arith) refl)
+      and_gives t (stored t e handle payload offset (length payload) 0 (offset + length payload) m (omega arith) refl)
       (reply_given t (sets m (e.start + offset) payload) e 0 handle 0 0)
 
   -- from the place just after the header of a WRITE that is refused
@@ -69,18 +69,18 @@ giving_leaves t (on (Serving e (Replying error handle left off len)) m) = refl
 giving_leaves t (on (Serving e (Sending off left)) m) = refl
 giving_leaves t (on (Over n) m) = tt
 
-pub giving_writes_nothing : {t is os : List ℕ} {x y : On State} → is ≡ [] → Moves (turn t) x is os y → image y ≡ image x
-giving_writes_nothing e still = refl
-giving_writes_nothing {t} {x = x} e (by_give q p) = giving_writes_nothing e p ∙ rw q at (giving_leaves t x)
-giving_writes_nothing e (by_take q p) = absurd (let z : ◌≡◌ {A = ℕ} 0 1 = cc in omega arith)
+pub giving_writes_nothing : (t : List ℕ) {is os : List ℕ} {x y : On State} → is ≡ [] → Moves (turn t) x is os y → image y ≡ image x
+giving_writes_nothing t e still = refl
+giving_writes_nothing t {x = x} e (by_give q p) = giving_writes_nothing t e p ∙ rw q at (giving_leaves t x)
+giving_writes_nothing t e (by_take q p) = absurd (let z : ◌≡◌ {A = ℕ} 0 1 = cc in omega arith)
 
 -- ---- a cut
 no_more : (l : List ℕ) → [] ≡ l ++ [] → l ≡ []
 no_more l e = sym (append-nil l) ∙ sym e
 
 -- the same input, up to a place where a byte is wanted and nothing was given
-waits : {t is os : List ℕ} {x y z : On State} {k : ℕ → On State} → Moves (turn t) x is [] z → turn t z ≡ takes k → Moves (turn t) x is os y → os ≡ []
-waits {t} {is} {os} {x} {y} {z} p w q = place (one_way {rest = []} {rest' = []} q p refl)
+waits : (t : List ℕ) {is os : List ℕ} {x y z : On State} {k : ℕ → On State} → Moves (turn t) x is [] z → turn t z ≡ takes k → Moves (turn t) x is os y → os ≡ []
+waits t {is} {os} {x} {y} {z} p w q = place (one_way {rest = []} {rest' = []} q p refl)
   where
     first_none : (l more : List ℕ) → [] ≡ l ++ more → l ≡ []
     first_none [] more e = refl
@@ -95,24 +95,24 @@ waits {t} {is} {os} {x} {y} {z} p w q = place (one_way {rest = []} {rest' = []} 
     place (inl f) = first_none os f.more_out f.all_out
     place (inr f) = f.all_out ∙ wanting refl (no_more f.more_in f.all_in) f.goes_on
 
-module _ {t m m' is os : List ℕ} {y : State} (e : Export) (handle left : ℕ) (part : length is < left) where
+module _ (t : List ℕ) {m m' is os : List ℕ} {y : State} (e : Export) (handle left : ℕ) (part : length is < left) where
   pub reply_waits_refused : (error : ℕ) → Moves (turn t) (on (dropping e error handle left) m) is os (on y m') → os ≡ []
   reply_waits_refused error p =
-      waits (drops (turn t) (dropping e error handle) (each_dropped t e error handle) is left (suc (left - suc (length is))) m (omega arith)) refl p
+      waits t (drops (turn t) (dropping e error handle) (each_dropped t e error handle) is left (suc (left - suc (length is))) m (omega arith)) refl p
 
   pub reply_waits_stored : (offset : ℕ) → Moves (turn t) (on (storing e handle offset left) m) is os (on y m') → os ≡ []
   reply_waits_stored offset p =
-      waits (stored t e handle is offset left (suc (left - suc (length is))) (offset + length is) m (omega arith) refl) refl p
+      waits t (stored t e handle is offset left (suc (left - suc (length is))) (offset + length is) m (omega arith) refl) refl p
 
 -- from the place after an accepted header, or a later place in the payload: whatever part of what is left has been taken, these bytes stand at their place
 -- in the window, and all the others of the image are as they were
-pub cut_inside_write : {t m m' is os : List ℕ} {y : State} (e : Export) (handle offset left : ℕ)
+pub cut_inside_write : (t : List ℕ) {m m' is os : List ℕ} {y : State} (e : Export) (handle offset left : ℕ)
     → Moves (turn t) (on (storing e handle offset left) m) is os (on y m') → length is ≤ left → e.start + offset + length is ≤ length m
     → m' ≡ take (e.start + offset) m ++ is ++ drop (e.start + offset + length is) m
-cut_inside_write {t} {m} {m'} {is} {os} {y} e handle offset left p fits inside =
+cut_inside_write t {m} {m'} {is} {os} {y} e handle offset left p fits inside =
     place (one_way {rest = []} {rest' = []} p (stored t e handle is offset left (left - length is) (offset + length is) m (omega arith) refl) refl)
     ∙ sets-eq is m (e.start + offset) inside
   where
     place : {z : State} {m₁ : List ℕ} → Further (turn t) os (on y m') [] [] (on z m₁) [] ⊎ Further (turn t) [] (on z m₁) [] os (on y m') [] → m' ≡ m₁
-    place (inl f) = sym (giving_writes_nothing (no_more f.more_in f.all_in) f.goes_on)
-    place (inr f) = giving_writes_nothing (no_more f.more_in f.all_in) f.goes_on
+    place (inl f) = sym (giving_writes_nothing t (no_more f.more_in f.all_in) f.goes_on)
+    place (inr f) = giving_writes_nothing t (no_more f.more_in f.all_in) f.goes_on

@@ -1,0 +1,9 @@
+-- Bytes are gathered up to the 4th, where they are judged.
+use mathlib.Core.Path.{◌≡◌}
+use borrow.Author.Rules.{rules}
+use lib.ListN.{length}
+use Rattle.server.proofs.Header.{flags_leaf}
+use Rattle.server.proofs.handshake.take_flags.Goals as goal
+
+pub returns : goal.returns
+returns c = λ t m. flags_leaf t (search rules) c.requires.0 c.requires.1 c.gather-n.ensures c.judge_flags-phase.ensures

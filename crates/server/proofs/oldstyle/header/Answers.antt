@@ -1,0 +1,8 @@
+-- Each field is written at its place over zeros.
+use Rattle.wire.specs.Layouts.{oldstyle_header}
+use Rattle.wire.specs.Fields.{be}
+use Rattle.server.proofs.oldstyle.header.Goals as goal
+
+pub returns : goal.returns
+unfolding be oldstyle_header
+returns c = rw (c.write_u32.ensures, c.write_u64.ensures, c.copy_part-2.ensures, c.copy_part.ensures)

@@ -1,0 +1,18 @@
+-- The magic is judged at the 4th byte, the rest at the 28th.
+use mathlib.Core.Path.{◌≡◌, sym, ◌∙◌}
+use borrow.Author.Rules.{rules}
+use lib.ListN.{length}
+use Rattle.server.proofs.Header.{request_magic, request_other, request_part, request_whole}
+use Rattle.server.proofs.transmission.requested.Goals as goal
+
+pub returns-then-read_u32-eq-NBD_REQUEST_MAGIC : goal.returns-then-read_u32-eq-NBD_REQUEST_MAGIC
+returns-then-read_u32-eq-NBD_REQUEST_MAGIC c = request_magic _ _ _ (search rules) c.if-k-eq4.true (sym c.read_u32.ensures ∙ c.if-read_u32-eq-NBD_REQUEST_MAGIC.true)
+
+pub returns-then-k-eq4 : goal.returns-then-k-eq4
+returns-then-k-eq4 c = request_other _ _ _ (search rules) c.if-k-eq4.true (λ z. c.if-read_u32-eq-NBD_REQUEST_MAGIC.false (c.read_u32.ensures ∙ z))
+
+pub returns-then-k-lt28 : goal.returns-then-k-lt28
+returns-then-k-lt28 c = request_part _ _ _ (search rules) c.if-k-eq4.false c.if-k-lt28.true
+
+pub returns : goal.returns
+returns c = c.begun.ensures _ ∙ rw (c.owed-o.ensures, c.request_of-r.ensures) (request_whole _ _ _ (search rules) c.if-k-lt28.false)
