@@ -1,0 +1,12 @@
+-- The bytes are gathered behind those that are there, and judged when there are 8.
+use mathlib.Core.Path.{refl}
+use borrow.Author.Rules.{rules}
+use Rattle.client.specs.Session.{Magic, Shaking, judge_magic}
+use Rattle.client.proofs.Header.{magic_part}
+use Rattle.client.proofs.Runs.{gathered_leaf}
+use Rattle.client.proofs.handshake.take_magic.Goals as goal
+
+pub returns : goal.returns
+returns c =
+    let a = c.args in
+    λ m. gathered_leaf (λ h. Shaking a.name (Magic h)) (judge_magic a.name) 8 (magic_part a.name) (λ _. refl) c.requires.0 (search rules) c.requires.1 c.gather-n.ensures c.judge_magic-phase.ensures

@@ -1,0 +1,20 @@
+-- One arm for each phase, whatever the head holds.
+use Rattle.client.proofs.ranges.same_loan.Goals as goal
+
+pub returns-in-Blank : goal.returns-in-Blank
+returns-in-Blank c = λ _. rw c.in-Blank.is
+
+pub returns-in-Shaking : goal.returns-in-Shaking
+returns-in-Shaking c = λ _. rw c.in-Shaking.is
+
+pub returns-in-Ready : goal.returns-in-Ready
+returns-in-Ready c = λ _. rw c.in-Ready.is
+
+pub returns-in-Calling : goal.returns-in-Calling
+returns-in-Calling c = λ _. rw (c.in-Calling.is, c.lent_to.ensures)
+
+pub returns-in-Closed : goal.returns-in-Closed
+returns-in-Closed c = λ _. rw c.in-Closed.is
+
+pub returns-in-Over : goal.returns-in-Over
+returns-in-Over c = λ _. rw c.in-Over.is

@@ -1,0 +1,14 @@
+-- The bytes are copied to the place where the data so far ends, which is a run of stores.
+use Prim.Native.Nat.{ℕ, ◌-◌}
+use mathlib.Core.Path.{ap, ◌∙◌}
+use lib.Seq.{paste}
+use Rattle.client.proofs.Runs.{fill_leaf}
+use Rattle.client.proofs.transmission.fill.Goals as goal
+
+pub returns : goal.returns
+returns c =
+    let a = c.args in
+    let p = c.requires in
+    let n = c.least-n.result in
+    let place = ap (λ (all : ℕ). paste a.lent.now (all - a.left) a.input.now n) c.wanted-all.ensures in
+    fill_leaf a.d a.c p.2.0 p.2.1 p.1 c.least-n.ensures (c.filling-phase.ensures a.head) (c.copy_part.ensures ∙ place)

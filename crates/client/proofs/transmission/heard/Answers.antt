@@ -1,0 +1,16 @@
+-- Fewer than 16 bytes wait; 16 are the whole array, which is judged.
+use mathlib.Core.Path.{◌∙◌}
+use borrow.Author.Rules.{rules}
+use Rattle.client.specs.Session.{Hearing, Calling, heard}
+use Rattle.client.proofs.Header.{reply_part, part_waits, reply_whole}
+use Rattle.client.proofs.transmission.heard.Goals as goal
+
+pub returns-then-k-lt16 : goal.returns-then-k-lt16
+returns-then-k-lt16 c =
+    let a = c.args in
+    part_waits (λ h. Calling a.d a.c (Hearing h)) (heard a.d a.c) 16 (reply_part a.d a.c) a.head a.k (search rules) c.if-k-lt16.true
+
+pub returns-else-k-lt16 : goal.returns-else-k-lt16
+returns-else-k-lt16 c =
+    let a = c.args in
+    c.replied.ensures a.head ∙ reply_whole a.d a.c a.head a.k (search rules) c.if-k-lt16.false
