@@ -60,9 +60,9 @@ is_ready {c = c} {m = m} ks rs all f e =
     let w = ready_at (view c) m ks rs all (in_range_lem c (in_ranges f.reached)) e in
     record { device = w.0; rests = w.1 }
 
-stuck_stays : {t : List ℕ} {cu cd : ℕ} {b : Traffic} {x y : Sys Driver (On State)} → Stuck drive (serve t) cu cd x → Exec drive (serve t) cu cd b x y → x ≡ y
-stuck_stays h done = refl
-stuck_stays h (next {a = a} {w = w} {y = y} m p) = absurd (h w a y m)
+stuck_stays : (t : List ℕ) {cu cd : ℕ} {b : Traffic} {x y : Sys Driver (On State)} → Stuck drive (serve t) cu cd x → Exec drive (serve t) cu cd b x y → x ≡ y
+stuck_stays t h done = refl
+stuck_stays t h (next {a = a} {w = w} {y = y} m p) = absurd (h w a y m)
 
 module _ {t : List ℕ} {cu cd : ℕ} where
   pub hosted : {i j : ℕ} {x z : Code} → Visits t cu cd i j x z → Fits t x → machines.Visits drive (serve t) cu cd i j (stands x) (stands z) × Fits t z
@@ -106,7 +106,7 @@ module _ {t : List ℕ} {cu cd : ℕ} where
       let g : Exec drive (serve t) cu cd (server_bytes (take r.taken u) (take r.given room')) (stands (joint c m ks rs s img u d))
       (stands (joint c m ks rs r.state img' (drop r.taken u) (d ++ take r.given room'))) =
       server_goes n (p.accepts f.server_fits).steps.goes fits.fits in
-      all_made all q (fit_serve p f) (rw (stuck_stays b g) at b) e
+      all_made all q (fit_serve p f) (rw (stuck_stays t b g) at b) e
   all_made all (shake {m = m} {ks = ks} {rs = rs} r e q h) f b o =
       absurd (let s = ap (λ (x : client.State). settle (on x m) ks rs) (sym e) ∙ o in let z : ◌≡◌ {A = ℕ} 0 1 = cc s in omega arith)
   all_made all (call {c = c} {m = m} {ks = ks} {rs = rs} k r y e q) f b o =

@@ -1,4 +1,6 @@
 // The joined system: condition 3 as theorems about what a host calls, and a host's moves on real slices.
+#![tactic(auto)]
+
 pub mod wires;
 
 ghost use Rattle.joined.specs.Wired.{ClientMoves, ServerMoves};

@@ -17,10 +17,10 @@ outcome_of y = ended (end_of y)
 abbrev pub Meets : List ℕ → On State → List ℕ → Served → Type 0
 Meets t x input r = Reaches (turn t) outcome_of x input r.left r.sent r.device r.outcome
 
-pub meets_over : {t is os input left m : List ℕ} {x : On State} {n : ℕ} → Moves (turn t) x is os (on (Over n) m) → input ≡ is ++ left
+pub meets_over : (t : List ℕ) {is os input left m : List ℕ} {x : On State} {n : ℕ} → Moves (turn t) x is os (on (Over n) m) → input ≡ is ++ left
     → Reaches (turn t) outcome_of x input left os m (ended n)
-meets_over {n = n} p e = reaches_rest (Over n) refl p e
+meets_over t {n = n} p e = reaches_rest (Over n) refl p e
 
-pub meets_cut : {t input m : List ℕ} {x : On State} {y : State} {k : ℕ → On State} → Moves (turn t) x input [] (on y m) → turn t (on y m) ≡ takes k → end_of y ≡ 12
+pub meets_cut : (t : List ℕ) {input m : List ℕ} {x : On State} {y : State} {k : ℕ → On State} → Moves (turn t) x input [] (on y m) → turn t (on y m) ≡ takes k → end_of y ≡ 12
     → Reaches (turn t) outcome_of x input [] [] m (ended 12)
-meets_cut {y = y} p e n = reaches_cut y p e (ap ended n)
+meets_cut t {y = y} p e n = reaches_cut y p e (ap ended n)

@@ -116,7 +116,7 @@ module _ (t m : List ℕ) (e : Export) where
 
     -- one that ends the session
     over : (typ len n : ℕ) → Moves (turn t) (on ready m) (request flags typ handle offset len) [] (on (Over n) m) → Step (asks typ len) (stop [] (window e m) left (ended n))
-    over typ len n p = rw (windowed_window m e) (meets_over p refl)
+    over typ len n p = rw (windowed_window m e) (meets_over t p refl)
 
     module _ (len : ℕ) (len_fits : len < 2 ^ 32) where
       -- ---- READ
@@ -206,14 +206,14 @@ module _ (t m : List ℕ) (e : Export) where
     unfolding one_request
     cut h why p =
         let w = window e m in
-        rw (header_short (fails 12 w []) input (fails 10 w) (λ typ handle offset len left. command typ handle offset len w left) h why, windowed_window m e) (meets_cut p refl refl)
+        rw (header_short (fails 12 w []) input (fails 10 w) (λ typ handle offset len left. command typ handle offset len w left) h why, windowed_window m e) (meets_cut t p refl refl)
 
     other : 4 ≤ length input → (number (take 4 input) ≡ NBD_REQUEST_MAGIC → ⊥) → Step input (one_request (window e m) input)
     unfolding one_request
     other h n =
         let w = window e m in
         rw (header_other input (fails 12 w []) (fails 10 w) (λ typ handle offset len left. command typ handle offset len w left) h n, windowed_window m e)
-        (meets_over (whole_other_magic t m e (take 4 input) (length-take-le 4 input h) n) (sym (take-append-drop 4 input)))
+        (meets_over t (whole_other_magic t m e (take 4 input) (length-take-le 4 input h) n) (sym (take-append-drop 4 input)))
 
     pub step_request : excluded_at e input ≡ false → Step input (one_request (window e m) input)
     step_request h = go (leb 4 (length input)) refl (eqb (number (take 4 input)) NBD_REQUEST_MAGIC) refl (leb 28 (length input)) refl

@@ -91,7 +91,7 @@ module _ (t m : List ℕ) where
 
   -- bytes that are taken before an end, or before the whole of a cut input
   over : {x : State} {is input left : List ℕ} {n : ℕ} → Moves (turn t) (on x m) is [] (on (Over n) m) → input ≡ is ++ left → Shakes x input (fails n left)
-  over p q = meets_over p q
+  over p q = meets_over t p q
 
   module _ (flags : ℕ) where
     abbrev ready : State
@@ -137,7 +137,7 @@ module _ (t m : List ℕ) where
       step_option clopt fits =
           picked (Shakes ready (asks clopt)) (eqb clopt 1) (λ q. rw (eqb-true clopt 1 q) step_name)
           λ q1.
-          picked (Shakes ready (asks clopt)) (eqb clopt 2) (λ q. rw (eqb-true clopt 2 q) (rw (append-nil (reply 2 1 []), same_option_reply 2 1 []) (meets_over (whole_abort t m (zeroes flags) opt short) refl)))
+          picked (Shakes ready (asks clopt)) (eqb clopt 2) (λ q. rw (eqb-true clopt 2 q) (rw (append-nil (reply 2 1 []), same_option_reply 2 1 []) (meets_over t (whole_abort t m (zeroes flags) opt short) refl)))
           λ q2.
           picked (Shakes ready (asks clopt)) (eqb clopt 3) (λ q. rw (eqb-true clopt 3 q) step_list)
           λ q3.
@@ -201,7 +201,7 @@ module _ (t m : List ℕ) where
       cut_payload : 4 ≤ length (drop 8 input) → 4 ≤ length (drop 4 (drop 8 input)) → take 8 input ≡ IHAVEOPT → length behind < optlen → optlen ≤ 100000 → Shakes ready input cut
       cut_payload c d e h short =
           let w = payload_part t m (zeroes flags) behind clopt optlen h short in
-          same_input cut (in_parts c d e) (meets_cut (then (option_judged t m (zeroes flags) clopt optlen fits.0 fits.1) w.moves) w.wanted w.going_on)
+          same_input cut (in_parts c d e) (meets_cut t (then (option_judged t m (zeroes flags) clopt optlen fits.0 fits.1) w.moves) w.wanted w.going_on)
 
       whole_option : 4 ≤ length (drop 8 input) → 4 ≤ length (drop 4 (drop 8 input)) → take 8 input ≡ IHAVEOPT → optlen ≤ 100000 → optlen ≤ length behind
           → (more : List ℕ → Shaken) → Shakes ready (drop optlen behind) (more (drop optlen behind))
@@ -211,7 +211,7 @@ module _ (t m : List ℕ) where
           (step_option (take optlen behind) (drop optlen behind) (rw (length-take-le optlen behind there) short) more goes_on clopt fits.0)
 
       cut_head : length input < 16 → 8 ≤ length input → take 8 input ≡ IHAVEOPT → Shakes ready input cut
-      cut_head h a e = meets_cut (option_magic_part t m (zeroes flags) input a h e) refl refl
+      cut_head h a e = meets_cut t (option_magic_part t m (zeroes flags) input a h e) refl refl
 
     abbrev All : ℕ → Type 0
     All k = (input : List ℕ) → Bytes input → length input < k → Shakes ready input (options t flags k input)
@@ -252,7 +252,7 @@ module _ (t m : List ℕ) where
         (λ g. cut_payload input bytes c' d' e (leb-false (optlen input bytes) (length (behind input bytes)) g) short))
         (λ d. cut_head input bytes (omega (arith, leb-false 4 (length (drop 4 (drop 8 input))) d, length-drop 4 (drop 8 input), length-drop 8 input)) a' e))
         (λ c. cut_head input bytes (omega (arith, leb-false 4 (length (drop 8 input)) c, length-drop 8 input)) a' e))
-        (λ a. meets_cut (option_part t m (zeroes flags) input (leb-false 8 (length input) a)) refl refl)
+        (λ a. meets_cut t (option_part t m (zeroes flags) input (leb-false 8 (length input) a)) refl refl)
 
   -- ---- the client's flags, then options
   module _ (input : List ℕ) (bytes : Bytes input) where
@@ -284,4 +284,4 @@ module _ (t m : List ℕ) where
     handshake_same =
         let s = read_number 4 input cut λ flags left. pick (both (not (eqb flags 1)) (not (eqb flags 3))) (fails 1 left) (options t flags (suc (length left)) left) in
         rw same_greeting (shakes_then input s (greeting_given t m) refl
-        (picked (Shakes (Shaking (ClientFlags [])) input) (leb 4 (length input)) (λ h. judged (leb-true 4 (length input) h)) (λ h. meets_cut (flags_part t m input (leb-false 4 (length input) h)) refl refl)))
+        (picked (Shakes (Shaking (ClientFlags [])) input) (leb 4 (length input)) (λ h. judged (leb-true 4 (length input) h)) (λ h. meets_cut t (flags_part t m input (leb-false 4 (length input) h)) refl refl)))
