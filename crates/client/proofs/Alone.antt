@@ -24,7 +24,7 @@ use Rattle.wire.specs.Constants.{NBDMAGIC, IHAVEOPT, OLDSTYLE, NBD_REPLY_MAGIC}
 use Rattle.wire.specs.Layouts.{zeros, export_reply, oldstyle_header, option_request, export_name, simple_reply}
 use Rattle.wire.proofs.BigEndian.{length_be, number_be}
 use Rattle.client.specs.Calls.{fields_of, device, payload, wanted, request_bytes, value_of, moved}
-use Rattle.client.specs.Session.{Magic, Style, Newstyle, Hello, SizeAndFlags, Filler, Asking, Hearing, State, Shaking, Calling, Closed, hello, judge_magic, judge_style, naming, greeting, newstyle, judge_size_and_flags, judged, filler, done, filling, paying, after_request, replied, heard, turn}
+use Rattle.client.specs.Session.{Magic, Style, Newstyle, Hello, SizeAndFlags, Filler, Asking, Hearing, State, Shaking, Calling, Closed, hello, judge_magic, judge_style, naming, greeting, newstyle, judge_size_and_flags, filler, done, filling, paying, after_request, replied, heard, turn}
 use Rattle.client.specs.declared.state.Device.{Device}
 use Rattle.client.specs.declared.state.Call.{Call}
 use Rattle.client.specs.declared.state.Value.TheVariants.{Opened}

@@ -15,7 +15,7 @@ use mathlib.Core.Option.{some}
 use native.Mathlib.Omega.{arith}
 use borrow.Author.Tests.{le-leb}
 use lib.ListN.{length}
-use Rattle.machine.specs.Machine.{On, on}
+use Rattle.machine.specs.Machine.{on}
 use Rattle.client.specs.Session.{State, Blank, Magic, Shaking, Ready, Calling, Closed, Over}
 use Rattle.client.specs.View.{code}
 use Rattle.client.specs.Ranges.{in_range}

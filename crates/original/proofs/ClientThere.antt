@@ -18,7 +18,7 @@ use Rattle.machine.specs.Pieces.{Steps}
 use Rattle.client.specs.Session.{State, Ready, turn}
 use Rattle.client.specs.View.{code}
 use Rattle.client.specs.Ranges.{refusal}
-use Rattle.client.specs.Contract.{Drives, after, outcome_of, answer, fresh}
+use Rattle.client.specs.Contract.{Drives, after, outcome_of, fresh}
 use Rattle.client.specs.History.{once, Reached, at_first, by_call, to_shake, answered}
 use Rattle.client.specs.declared.state.Client.{Client}
 use Rattle.client.specs.declared.state.Device.{Device}
@@ -29,7 +29,7 @@ use Rattle.client.proofs.Tidy.{viewed}
 use Rattle.client.proofs.Numbers.{numbered, valued}
 use Rattle.client.proofs.Result.{in_ranges}
 use Rattle.original.specs.Client.{Answer, Done, Call, made, handshake}
-use Rattle.original.specs.ClientSession.{Told, silence, tells, calls, session, asked, buffer, told, is_open, is_closed, Stepped, closing, ending}
+use Rattle.original.specs.ClientSession.{Told, silence, tells, session, asked, buffer, told, is_open, is_closed, Stepped, closing, ending}
 use Rattle.original.specs.ClientSession.{Domain, Hosted, no_more, at_once, closes, ends, Hosts, opens, breaks_off}
 use Rattle.original.proofs.ClientMeets.{client_of, answer_of, Meets}
 use Rattle.original.proofs.ClientMade.{AtOnce, GoesOut, Prompt, made_agrees}

@@ -26,7 +26,7 @@ use Rattle.wire.specs.Numbers.{clamped, added}
 use Rattle.wire.specs.Table.{bit, read_only, wire_flags}
 use Rattle.server.proofs.Kept.{picked}
 use Rattle.original.specs.Consts as consts
-use Rattle.original.specs.Leaves.{has, table_fields, export_flags, take_away, checked_add_i64, clamp_to_u32, zeros, oldstyle_header, greeting, reply, export_reply, replyt, export_name, sendrequest}
+use Rattle.original.specs.Leaves.{has, table_fields, export_flags, take_away, checked_add_i64, clamp_to_u32, oldstyle_header, greeting, reply, export_reply, replyt, export_name, sendrequest}
 
 -- ---- the constants
 pub same-strings :

@@ -15,7 +15,7 @@ use native.Mathlib.Omega.{arith}
 use borrow.Author.Tests.{le-ltb}
 use lib.ListN.{length, take, drop, length-append}
 use lib.Seq.{take-append_seam, drop-append_seam}
-use Rattle.machine.specs.Machine.{On, on, owes}
+use Rattle.machine.specs.Machine.{on, owes}
 use Rattle.machine.specs.Run.{reached, run_for}
 use Rattle.machine.specs.Stream.{Session, Finished}
 use Rattle.machine.proofs.Runs.{runs}

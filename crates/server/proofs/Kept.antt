@@ -10,7 +10,7 @@ use native.Mathlib.Omega.{arith}
 use borrow.Author.Tests.{not-true, leb-true, le-leb, lt-ltb, eqb-true, eq-eqb, ne_eqb, ltb-false}
 use lib.Dec.{eqb, leb, ltb}
 use lib.ListN.{length, length-set}
-use Rattle.machine.specs.Choice.{pick, both, between}
+use Rattle.machine.specs.Choice.{pick, between}
 use Rattle.machine.specs.Machine.{On, on, Keeps, Moves}
 use Rattle.machine.specs.Parts.{less}
 use Rattle.machine.proofs.Moves.{kept}

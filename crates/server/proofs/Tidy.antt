@@ -17,8 +17,8 @@ use Rattle.wire.specs.declared.table.Export.{Export}
 use Rattle.wire.proofs.Tests.{both_left, both_right}
 use Rattle.wire.proofs.Words.{bits_word, word_bits}
 use Rattle.machine.specs.Parts.{blank}
-use Rattle.server.specs.Session.{Handshake, Greeting, ClientFlags, OptionHead, Naming, Passing, Listing, Declining, Aborting, Exporting}
-use Rattle.server.specs.Session.{Transmission, Header, Storing, Dropping, Replying, Sending, State, Shaking, Serving, Over}
+use Rattle.server.specs.Session.{Greeting, ClientFlags, OptionHead, Naming, Passing, Listing, Declining, Aborting, Exporting}
+use Rattle.server.specs.Session.{Header, Storing, Dropping, Replying, Sending, State, Shaking, Serving, Over}
 use Rattle.server.specs.View.{handshake_of, transmission_of, view_of, view, code}
 use Rattle.server.specs.View.{used_shaking, used_serving, used}
 use Rattle.server.specs.Ranges.{ranged_shaking, ranged_serving, ranged, in_range}

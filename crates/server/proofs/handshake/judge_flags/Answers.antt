@@ -1,7 +1,6 @@
 -- The four bytes are judged once all are there.
-use mathlib.Core.Path.{◌≡◌, sym, ◌∙◌}
+use mathlib.Core.Path.{sym, ◌∙◌}
 use borrow.Author.Rules.{rules}
-use lib.ListN.{length}
 use Rattle.server.proofs.Header.{flags_part, flags_zeroes, flags_no_zeroes, flags_other}
 use Rattle.server.proofs.handshake.judge_flags.Goals as goal
 

@@ -1,7 +1,5 @@
 -- Bytes are gathered up to the 4th, where they are judged.
-use mathlib.Core.Path.{◌≡◌}
 use borrow.Author.Rules.{rules}
-use lib.ListN.{length}
 use Rattle.server.proofs.Header.{flags_leaf}
 use Rattle.server.proofs.handshake.take_flags.Goals as goal
 

@@ -1,7 +1,6 @@
 -- The magic is judged at the 8th byte, the rest at the 16th.
-use mathlib.Core.Path.{◌≡◌, sym, ◌∙◌}
+use mathlib.Core.Path.{sym, ◌∙◌}
 use borrow.Author.Rules.{rules}
-use lib.ListN.{length}
 use Rattle.server.proofs.Header.{option_magic, option_other, option_part, option_whole}
 use Rattle.server.proofs.options.judge_option.Goals as goal
 

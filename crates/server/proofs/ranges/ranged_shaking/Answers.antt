@@ -1,8 +1,7 @@
 -- Each phase's own test; a header's count is that of the bytes in the array.
-use mathlib.Core.Path.{◌≡◌, ◌∙◌}
+use mathlib.Core.Path.{◌∙◌}
 use native.Mathlib.Omega.{arith}
 use borrow.Author.Rules.{rules}
-use lib.ListN.{length}
 use Rattle.wire.proofs.Words.{length_bits}
 use Rattle.server.proofs.Tests.{head_short}
 use Rattle.server.proofs.ranges.ranged_shaking.Goals as goal

@@ -3,7 +3,6 @@ use Prim.Native.Nat.{◌+◌, ◌-◌}
 use mathlib.Core.Path.{◌≡◌, refl}
 use native.Mathlib.Omega.{arith}
 use borrow.Author.Rules.{rules}
-use lib.ListN.{length}
 use Rattle.machine.proofs.Leaves.{absorbs_idle}
 use Rattle.server.proofs.Window.{window_length, store_leaf}
 use Rattle.server.proofs.Bounds.{storing_bounds, dropping_some, head_below}

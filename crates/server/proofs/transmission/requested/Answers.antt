@@ -1,7 +1,6 @@
 -- The magic is judged at the 4th byte, the rest at the 28th.
-use mathlib.Core.Path.{◌≡◌, sym, ◌∙◌}
+use mathlib.Core.Path.{sym, ◌∙◌}
 use borrow.Author.Rules.{rules}
-use lib.ListN.{length}
 use Rattle.server.proofs.Header.{request_magic, request_other, request_part, request_whole}
 use Rattle.server.proofs.transmission.requested.Goals as goal
 

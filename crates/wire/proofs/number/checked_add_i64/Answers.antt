@@ -1,6 +1,6 @@
 -- By the number's sign and size the code goes the way of `added`; what the machine reads back from the number's bits is the number.
 use mathlib.Core.Path.{◌≡◌, sym, ap}
-use mathlib.Core.Bool.{Bool, true, false}
+use mathlib.Core.Bool.{Bool, false}
 use Prim.Native.Nat.{◌^◌}
 use native.Mathlib.Omega.{arith}
 use lib.IntN.{ℤ, pos, nat_abs, ◌-ℤ◌}

@@ -1,5 +1,5 @@
 -- the tests come in the order of the faults: flags, name, window
-use borrow.Author.Tests.{le-ltb, lt-ltb, not-true, not-false}
+use borrow.Author.Tests.{le-ltb, lt-ltb}
 use Rattle.wire.proofs.table.record_judged.Goals as goal
 
 pub returns-then-x-ge16 : goal.returns-then-x-ge16

@@ -1,5 +1,5 @@
 -- A refused client comes back as it was; any other is advanced, and handed back as the client of the place that it came to.
-use mathlib.Core.Path.{◌≡◌, refl, sym, ap, ◌∙◌}
+use mathlib.Core.Path.{refl, sym, ap, ◌∙◌}
 use mathlib.Core.Option.{some}
 use borrow.Author.Rules.{rules}
 use lib.ListN.{length}

@@ -1,5 +1,5 @@
 -- A refusal returns before anything moves; else the loop goes as far as it can, and its state is tidied.
-use mathlib.Core.Path.{◌≡◌, refl, sym, ap, ◌∙◌}
+use mathlib.Core.Path.{refl, sym, ap, ◌∙◌}
 use mathlib.Core.Option.{some}
 use borrow.Author.Rules.{rules}
 use lib.ListN.{length}
