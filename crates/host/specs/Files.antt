@@ -6,4 +6,4 @@ use Rattle.host.specs.declared.files.Got.TheVariants.{Bytes, Unreadable}
 
 abbrev pub GotIn : ℕ → Got → Type 0
 GotIn n (Bytes k) = k ≤ n
-GotIn n Unreadable = Unit {0}
+GotIn n (Unreadable e) = Unit {0}

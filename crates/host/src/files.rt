@@ -2,45 +2,99 @@
 ghost use Rattle.std.specs.Prelude.{◌+◌, ◌≤◌, length};
 ghost use Rattle.host.specs.Files.{GotIn};
 
+use std::fs::{File, OpenOptions};
+use std::io::{Error, Read, Result};
+use std::os::unix::fs::FileExt;
+use std::rt::Files;
+
+// Linux's numbers for a path that has a NUL, for one that is too long, and for bytes that are no text.
+const EINVAL: i32 = 22;
+
+const ENAMETOOLONG: i32 = 36;
+
+const EILSEQ: i32 = 84;
+
+// The longest path, and a byte more.
+const PATH: usize = 4096;
+
 // What a file held.
-#[derive(Drop)]
+#[derive(Clone, Copy)]
 pub enum Got {
     Bytes(usize),
-    // and why is in errno
-    Unreadable,
+    // and why
+    Unreadable(Error),
 }
 
+// ---- files by their names
+
+// The file's name as std takes it: as text, and so only where it is UTF-8.
+fn path(name: &[u8]) -> Result<&str> {
+    if name.len() >= PATH {
+        return Err(Error::from_raw_os_error(ENAMETOOLONG));
+    }
+    if name.contains(&0) {
+        return Err(Error::from_raw_os_error(EINVAL));
+    }
+    match std::str::from_utf8(name) {
+        Ok(text) => Ok(text),
+        Err(_) => Err(Error::from_raw_os_error(EILSEQ)),
+    }
+}
+
+// Opens the file for reading.
+pub fn open_read(rt: &impl Files<File = File>, name: &[u8]) -> Result<File> {
+    File::open(rt, path(name)?)
+}
+
+// Opens the file for reading and writing, and leaves its bytes as they are.
+pub fn open_update(rt: &impl Files<File = File>, name: &[u8]) -> Result<File> {
+    OpenOptions::new()
+        .read(true)
+        .write(true)
+        .open(rt, path(name)?)
+}
+
+// Opens the file for writing, and empties it, or creates it where it is missing.
+pub fn open_overwrite(rt: &impl Files<File = File>, name: &[u8]) -> Result<File> {
+    File::create(rt, path(name)?)
+}
+
+// ---- their bytes
+
 // Reads to the front of the buffer until the file ends or the buffer is full. A buffer of one byte more than is wanted shows a file that is too long.
-pub fn read_file(fd: i32, buf: &mut [u8]) -> Got
+pub fn read_file(file: &mut impl Read, buf: &mut [u8]) -> Got
     ensures { GotIn (length buf.old) result }
 {
     let mut done = 0;
     while done < buf.len() {
-        let got = libc::read(fd, &mut buf[done..]);
-        if got < 0 {
-            return Got::Unreadable;
+        match file.read(&mut buf[done..]) {
+            Ok(n) => {
+                if n == 0 {
+                    return Got::Bytes(done);
+                }
+                done += n;
+            }
+            Err(e) => return Got::Unreadable(e),
         }
-        let n = io::count(got, &buf[done..]);
-        if n == 0 {
-            return Got::Bytes(done);
-        }
-        done += n;
     }
     Got::Bytes(done)
 }
 
 // Writes the bytes at this place of the file. Whether all of them are there.
-pub fn put(fd: i32, bytes: &[u8], place: usize) -> bool
+pub fn put(file: &File, bytes: &[u8], place: usize) -> bool
     requires { place + length bytes.now ≤ 9223372036854775807 }
 {
     let mut done = 0;
     while done < bytes.len() {
-        let got = libc::pwrite(fd, &bytes[done..], (place + done) as i64);
-        let n = io::count(got, &bytes[done..]);
-        if n == 0 {
-            return false;
+        match file.write_at(&bytes[done..], (place + done) as u64) {
+            Ok(n) => {
+                if n == 0 {
+                    return false;
+                }
+                done += n;
+            }
+            Err(_) => return false,
         }
-        done += n;
     }
     true
 }

@@ -5,7 +5,7 @@ ghost use Rattle.host.specs.Text.{Behind, NumberIn, NameIn, GlyphIn};
 use wire::fields;
 
 // What is wrong with a line.
-#[derive(Drop)]
+#[derive(Clone, Copy)]
 pub enum Mistake {
     NoQuote,
     Escape,
@@ -14,20 +14,20 @@ pub enum Mistake {
     Word,
 }
 
-#[derive(Drop)]
+#[derive(Clone, Copy)]
 pub enum Number {
     Is { value: u64, next: usize },
     Bad,
 }
 
-#[derive(Drop)]
+#[derive(Clone, Copy)]
 pub enum Name {
     Is { len: usize, next: usize },
     Bad(Mistake),
 }
 
 // What stands at a place of a quoted name.
-#[derive(Drop)]
+#[derive(Clone, Copy)]
 pub enum Glyph {
     Byte { byte: u8, next: usize },
     Close(usize),
