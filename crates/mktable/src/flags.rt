@@ -4,7 +4,7 @@ ghost use Rattle.std.specs.Prelude.{◌≤◌, length};
 use host::text;
 use host::text::Mistake;
 
-#[derive(Drop)]
+#[derive(Clone, Copy)]
 pub enum Words {
     Are(u8),
     Bad(Mistake),

@@ -1,14 +1,14 @@
 // From a table to lines of text that make it again.
 ghost use Rattle.wire.specs.Walk.{Inside};
 
+use crate::STDOUT;
 use host::faults;
 use host::words::say;
-use libc::STDOUT_FILENO;
 use wire::table;
 use wire::table::{Entry, Export, Front};
 
 fn write(text: &[u8]) {
-    io::write_all(STDOUT_FILENO, text);
+    io::write_all(STDOUT, text);
 }
 
 fn write_byte(b: u8) {
@@ -23,7 +23,7 @@ fn write_glyph(b: u8) {
         b'\\' => write(b"\\\\"),
         0..=31 | 127 => {
             write(b"\\x");
-            io::print_hex(STDOUT_FILENO, b as u64, 2);
+            io::print_hex(STDOUT, b as u64, 2);
         }
         _ => write_byte(b),
     }
@@ -41,7 +41,7 @@ fn write_name(name: &[u8]) {
 
 fn write_number(n: u64) {
     write(b" ");
-    io::print_decimal(STDOUT_FILENO, n);
+    io::print_decimal(STDOUT, n);
 }
 
 // The word where the flags have this digit.

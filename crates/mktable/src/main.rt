@@ -1,5 +1,7 @@
 // mktable SIZE: reads lines of text on standard input, and writes the table that they describe, for an image of SIZE bytes.
 // mktable SIZE list: reads a table, and writes such lines.
+#![tactic(auto)]
+
 mod flags;
 mod listing;
 mod making;
@@ -7,8 +9,9 @@ mod making;
 use host::files::Got;
 use host::text::Number;
 use host::words::say;
-use host::{files, text};
-use libc::STDIN_FILENO;
+use host::{args, files, text, words};
+
+const STDOUT: i32 = 1;
 
 // 32 records with their longest names, each byte of them written as \xHH, are less than half of this.
 const TEXT: usize = 2097152;
@@ -16,19 +19,20 @@ const TEXT: usize = 2097152;
 const TABLE: usize = 135796;
 
 // The image's size.
-fn size() -> Number {
+fn size(rt: &HostRuntime) -> Number {
     let mut word = io::buffer();
-    let n = os::arg(1, &mut word);
-    if n == 0 {
-        return Number::Bad;
+    match args::get(rt, 1, &mut word) {
+        Ok(n) => text::number_at(&word[..n], 0),
+        Err(_) => Number::Bad,
     }
-    text::number_at(&word[..n], 0)
 }
 
-fn is_list() -> bool {
+fn is_list(rt: &HostRuntime) -> bool {
     let mut word = io::buffer();
-    let n = os::arg(2, &mut word);
-    n == 4 && word[0] == b'l' && word[1] == b'i' && word[2] == b's' && word[3] == b't'
+    match args::get(rt, 2, &mut word) {
+        Ok(n) => text::same(&word[..n], b"list"),
+        Err(_) => false,
+    }
 }
 
 fn usage() {
@@ -37,40 +41,40 @@ fn usage() {
     say(b"the words readonly, resizeable, rotational and trim; # starts a comment.\n");
 }
 
-fn obey(image: usize, text: &[u8]) {
-    if os::arg_count() == 2 {
+fn obey(rt: &HostRuntime, image: usize, text: &[u8]) {
+    if args::count(rt) == 2 {
         let mut table = [0u8; TABLE];
         making::make(text, image, &mut table);
-    } else if os::arg_count() == 3 && is_list() {
+    } else if args::count(rt) == 3 && is_list(rt) {
         listing::list(text, image);
     } else {
         usage();
     }
 }
 
-fn run(text: &mut [u8; TEXT]) {
-    let s = size();
+fn run(rt: &HostRuntime, text: &mut [u8; TEXT]) {
+    let s = size(rt);
     match s {
-        Number::Is { value, .. } => read_and_obey(value as usize, text),
+        Number::Is { value, .. } => read_and_obey(rt, value as usize, text),
         Number::Bad => usage(),
     }
 }
 
-fn read_and_obey(image: usize, text: &mut [u8]) {
-    let got = files::read_file(STDIN_FILENO, text);
+fn read_and_obey(rt: &HostRuntime, image: usize, text: &mut [u8]) {
+    let got = files::read_file(&mut rt.stdin(), text);
     match got {
         Got::Bytes(n) => {
             if n == text.len() {
                 say(b"mktable: standard input is too long\n");
             } else {
-                obey(image, &text[..n]);
+                obey(rt, image, &text[..n]);
             }
         }
-        Got::Unreadable => os::fail(b"mktable: standard input"),
+        Got::Unreadable(e) => words::fail(b"mktable: standard input", e),
     }
 }
 
-fn main() {
+fn main(rt: HostRuntime) {
     let mut text = [0u8; TEXT];
-    run(&mut text);
+    run(&rt, &mut text);
 }

@@ -3,18 +3,17 @@ ghost use Rattle.std.specs.Prelude.{◌≡◌, ◌+◌, ◌≤◌, length};
 ghost use Rattle.wire.specs.Table.{fault};
 ghost use Rattle.mktable.specs.Making.{ParsedIn};
 
-use crate::flags;
 use crate::flags::Words;
+use crate::{STDOUT, flags};
 use host::text::{Mistake, Name, Number};
 use host::words::{say, say_number};
 use host::{faults, text};
-use libc::STDOUT_FILENO;
 use machine::copy;
 use wire::table::Export;
 use wire::{fields, table};
 
 // What a line says.
-#[derive(Drop)]
+#[derive(Clone, Copy)]
 pub enum Parsed {
     Nothing,
     // so many bytes of the name buffer are the name
@@ -167,7 +166,7 @@ fn add_line(line: &[u8], k: u64, table: &mut [u8], n: usize, image: usize) -> us
 fn write_table(table: &[u8], image: usize)
     requires { fault image table.now ≡ 0 }
 {
-    let written = io::write_all(STDOUT_FILENO, table);
+    let written = io::write_all(STDOUT, table);
     if !written {
         say(b"mktable: the table cannot be written\n");
     }
@@ -185,7 +184,7 @@ fn finish(table: &[u8], image: usize) {
 }
 
 // How long the table is, and whether every line so far was good.
-#[derive(Drop)]
+#[derive(Clone, Copy)]
 struct Draft {
     n: usize,
     good: bool,
