@@ -1,14 +1,18 @@
 // Reads cases on standard input, makes the leaf call of `wire` that each names, and writes a line for each: the case, and what was answered.
 // The cases of document 01 and the vectors of RFC 3629 are the file stdin beside src/, and the expected lines the file stdout. compare/leaves.py
 // writes both without this code, from Python's own numbers and UTF-8 decoder and from 01's text.
+#![tactic(auto)]
+
 mod names;
 mod numbers;
 mod say;
 mod texts;
 
-use libc::STDIN_FILENO;
 use machine::copy::least;
 use wire::{fields, table};
+
+// Standard input.
+const STDIN: i32 = 0;
 
 // The longest payload.
 const LONGEST: usize = 4200;
@@ -67,7 +71,7 @@ fn over(cut: bool) -> bool {
 // Reads a payload of so many bytes, and writes the case's line. Whether a case may come after it.
 fn case(letter: u8, x: u64, y: u64, size: usize, room: &mut [u8]) -> bool {
     let n = least(size, room.len());
-    if io::read_full(STDIN_FILENO, &mut room[0..n]) < size {
+    if io::read_full(STDIN, &mut room[0..n]) < size {
         return over(true);
     }
     line(letter, x, y, &room[0..n]);
@@ -77,7 +81,7 @@ fn case(letter: u8, x: u64, y: u64, size: usize, room: &mut [u8]) -> bool {
 // A record: a letter (1 byte), x (8), y (8), a size (2) and a payload of so many bytes. Whether a case may come after it.
 fn next(room: &mut [u8; LONGEST]) -> bool {
     let mut head = [0u8; 19];
-    let got = io::read_full(STDIN_FILENO, &mut head);
+    let got = io::read_full(STDIN, &mut head);
     if got < 19 {
         return over(0 < got);
     }

@@ -1,8 +1,10 @@
 // What is written, on standard output.
-use libc::STDOUT_FILENO;
+
+// Standard output.
+const STDOUT: i32 = 1;
 
 pub fn text(s: &[u8]) {
-    io::write_all(STDOUT_FILENO, s);
+    io::write_all(STDOUT, s);
 }
 
 pub fn letter(b: u8) {
@@ -13,12 +15,12 @@ pub fn letter(b: u8) {
 // A space and the number.
 pub fn number(n: u64) {
     letter(b' ');
-    io::print_decimal(STDOUT_FILENO, n);
+    io::print_decimal(STDOUT, n);
 }
 
 // A byte, in two digits.
 fn byte(b: u8) {
-    io::print_hex(STDOUT_FILENO, b as u64, 2);
+    io::print_hex(STDOUT, b as u64, 2);
 }
 
 pub fn bytes(s: &[u8]) {

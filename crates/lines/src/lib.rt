@@ -1,5 +1,7 @@
 // What `trace` writes and lends: words, numbers and bytes on standard output (here), lines (`answer`), where things stand (`places`), and the
 // buffers around a step (`room`).
+#![tactic(auto)]
+
 pub mod answer;
 pub mod places;
 pub mod room;
@@ -9,17 +11,19 @@ ghost use Rattle.std.proofs.Math.Seq.{paste};
 ghost use Rattle.io.specs.Digits.{hex_digit_ascii};
 ghost use Rattle.lines.specs.Hex.{hex_of};
 
-use libc::STDOUT_FILENO;
 use machine::copy;
 
+// Standard output.
+const STDOUT: i32 = 1;
+
 pub fn text(s: &[u8]) {
-    io::write_all(STDOUT_FILENO, s);
+    io::write_all(STDOUT, s);
 }
 
 // A space and the number.
 pub fn number(n: u64) {
     text(b" ");
-    io::print_decimal(STDOUT_FILENO, n);
+    io::print_decimal(STDOUT, n);
 }
 
 // A space, and 1 or 0.
