@@ -1,12 +1,18 @@
 // Moves 64 KiB pieces over an image of 7 MiB (a program's stack has 8), by the server's WRITEs and READs or by the plain copy loop.
 // Standard input: `r` (requests) or `c` (copies), and the number of rounds (4 bytes, big-endian). A round writes and reads each piece once.
 // It writes how many bytes moved. It has no clock: bench/run.py times it.
+#![tactic(auto)]
+
 ghost use Rattle.std.specs.Prelude.{◌≡◌, ◌+◌, ◌*◌, length};
 
-use libc::{STDIN_FILENO, STDOUT_FILENO};
 use machine::copy;
 use server::state::Server;
 use wire::fields;
+
+// Standard input and output.
+const STDIN: i32 = 0;
+
+const STDOUT: i32 = 1;
 
 const IMAGE: usize = 7340032;
 
@@ -19,7 +25,7 @@ const INPUT: usize = 65564;
 const ROOM: usize = 65552;
 
 // Where a run stands, and the bytes taken and given so far.
-#[derive(Drop)]
+#[derive(Clone, Copy)]
 struct Run {
     server: Server,
     moved: u64,
@@ -105,9 +111,9 @@ fn prepare(input: &mut [u8])
 fn round(requested: bool, run: Run, image: &mut [u8], input: &mut [u8], room: &mut [u8]) -> Run
     requires { (length image.old ≡ 7340032) × (length input.old ≡ 65564) × (length room.old ≡ 65552) }
 {
-    io::read_full(STDIN_FILENO, image);
-    io::read_full(STDIN_FILENO, input);
-    io::read_full(STDIN_FILENO, room);
+    io::read_full(STDIN, image);
+    io::read_full(STDIN, input);
+    io::read_full(STDIN, room);
     if requested {
         return requests(run, image, input, room);
     }
@@ -136,15 +142,15 @@ fn wide(x: u8) -> u64 {
 fn show(moved: u64, room: &[u8])
     requires { length room.now ≡ 65552 }
 {
-    io::print_decimal(STDOUT_FILENO, moved);
-    io::write_all(STDOUT_FILENO, b" ");
-    io::print_decimal(STDOUT_FILENO, wide(room[65551]));
-    io::write_all(STDOUT_FILENO, b"\n");
+    io::print_decimal(STDOUT, moved);
+    io::write_all(STDOUT, b" ");
+    io::print_decimal(STDOUT, wide(room[65551]));
+    io::write_all(STDOUT, b"\n");
 }
 
 fn bench(image: &mut [u8; IMAGE]) {
     let mut order = [0u8; 5];
-    io::read_full(STDIN_FILENO, &mut order);
+    io::read_full(STDIN, &mut order);
     let mut input = [7u8; INPUT];
     let mut room = [0u8; ROOM];
     prepare(&mut input);

@@ -1,4 +1,6 @@
 // What `trace` does with a client.
+#![tactic(auto)]
+
 pub mod asked;
 
 ghost use Rattle.std.specs.Prelude.{◌≡◌, ◌≤◌, length};

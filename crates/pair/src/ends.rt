@@ -7,7 +7,7 @@ use server::state::Server;
 use std::num::wrapping_add_u64;
 
 // The wires' own bytes are lent. What each end took and gave is counted.
-#[derive(Drop)]
+#[derive(Clone, Copy)]
 pub struct Ends {
     pub client: Client,
     pub server: Server,
@@ -21,7 +21,7 @@ pub struct Ends {
 }
 
 // Where the ends stand after a move or a call, and how the client's call stands.
-#[derive(Drop)]
+#[derive(Clone, Copy)]
 pub struct After {
     pub ends: Ends,
     pub outcome: Outcome,

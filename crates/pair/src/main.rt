@@ -1,5 +1,7 @@
 // One client and one server on two wires, of several capacities and with several orders of moves. The calls' results, the image and the bytes carried
 // are written for each, and are the same.
+#![tactic(auto)]
+
 mod ends;
 mod print;
 mod schedule;

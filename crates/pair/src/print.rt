@@ -2,10 +2,12 @@
 use crate::ends::Ends;
 use crate::script::Call;
 use client::state::{Fields, Outcome, Value};
-use libc::STDOUT_FILENO;
+
+// Standard output.
+const STDOUT: i32 = 1;
 
 pub fn text(s: &[u8]) {
-    io::write_all(STDOUT_FILENO, s);
+    io::write_all(STDOUT, s);
 }
 
 // A text in which each # stands for a number: a, then b, then c, then d.
@@ -17,7 +19,7 @@ pub fn numbers(shape: &[u8], a: u64, b: u64, c: u64, d: u64) {
     while i < shape.len() {
         let next = i + 1;
         if shape[i] == b'#' {
-            io::print_decimal(STDOUT_FILENO, first);
+            io::print_decimal(STDOUT, first);
             first = second;
             second = third;
             third = d;

@@ -1,13 +1,13 @@
 // Orders of moves: who moves next, on how large a piece and with how much room.
 
 // A kind of order and where it stands.
-#[derive(Drop)]
+#[derive(Clone, Copy)]
 pub struct Schedule {
     pub kind: u8,
     pub at: u32,
 }
 
-#[derive(Drop)]
+#[derive(Clone, Copy)]
 pub struct Choice {
     // the client moves, or else the server
     pub client: bool,

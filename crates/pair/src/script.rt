@@ -5,7 +5,7 @@ use client::Called;
 use client::state::{Client, SeekFrom};
 use machine::copy;
 
-#[derive(Drop)]
+#[derive(Clone, Copy)]
 pub enum Call {
     Handshake,
     // into a buffer of so many bytes
@@ -55,7 +55,7 @@ pub fn lent(c: Call) -> usize
 }
 
 // So many bytes of a text, from a place on.
-#[derive(Drop)]
+#[derive(Clone, Copy)]
 struct Word {
     from: usize,
     size: usize,

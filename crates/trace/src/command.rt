@@ -10,7 +10,7 @@ use lines::places::Step;
 use serving::asked::{Head, Serve};
 use wire::{fields, number};
 
-#[derive(Drop)]
+#[derive(Clone, Copy)]
 pub enum Command {
     Change(Change),
     Serve(Serve),
@@ -24,14 +24,14 @@ pub enum Command {
 }
 
 // What is kept from now on: a table, an image or a slice of so many bytes.
-#[derive(Drop)]
+#[derive(Clone, Copy)]
 pub enum Change {
     Table(usize),
     Image(usize),
     Slice(usize),
 }
 
-#[derive(Drop)]
+#[derive(Clone, Copy)]
 pub enum Shown {
     Image,
     Slice,

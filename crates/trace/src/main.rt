@@ -1,4 +1,6 @@
 // Reads a script on standard input, makes the calls that it names, and writes a line for each call that answers.
+#![tactic(auto)]
+
 mod command;
 mod host;
 mod record;

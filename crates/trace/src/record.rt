@@ -2,13 +2,15 @@
 ghost use Rattle.std.specs.Prelude.{◌+◌, ◌≤◌, length};
 ghost use Rattle.trace.specs.Buffers.{Within};
 
-use libc::STDIN_FILENO;
 use wire::fields;
+
+// Standard input.
+const STDIN: i32 = 0;
 
 // The longest payload.
 const LONGEST: usize = 262144;
 
-#[derive(Drop)]
+#[derive(Clone, Copy)]
 pub enum Record {
     // the payload comes next
     Of { letter: u8, size: usize },
@@ -23,7 +25,7 @@ pub fn next() -> Record
     ensures { Within result }
 {
     let mut head = [0u8; 5];
-    let got = io::read_full(STDIN_FILENO, &mut head);
+    let got = io::read_full(STDIN, &mut head);
     if got == 0 {
         return Record::Over;
     }
@@ -43,5 +45,5 @@ pub fn payload(buffer: &mut [u8], at: usize, size: usize) -> bool
     requires { at + size ≤ length buffer.old }
 {
     let end = at + size;
-    io::read_full(STDIN_FILENO, &mut buffer[at..end]) == size
+    io::read_full(STDIN, &mut buffer[at..end]) == size
 }
