@@ -148,15 +148,15 @@ taking_calmly t n (Serving e (Replying error handle left off len)) m h = tt
 taking_calmly t n (Serving e (Sending off left)) m h = tt
 taking_calmly t n (Over k) m h = tt
 
-calm_moves : (m₀ : List ℕ) {t is os : List ℕ} (x y : On State) → os ≡ [] → Still (length is) m₀ x → Moves (turn t) x is os y → Still 0 m₀ y
-calm_moves m₀ x y e h still = h
-calm_moves m₀ x y e h (by_give q p) = absurd (let z : ◌≡◌ {A = ℕ} 0 1 = cc in omega arith)
-calm_moves m₀ {t = t} (on s m) y e h (by_take {k = k} {b = b} {is = is} q p) =
+calm_moves : (t m₀ : List ℕ) {is os : List ℕ} (x y : On State) → os ≡ [] → Still (length is) m₀ x → Moves (turn t) x is os y → Still 0 m₀ y
+calm_moves t m₀ x y e h still = h
+calm_moves t m₀ x y e h (by_give q p) = absurd (let z : ◌≡◌ {A = ℕ} 0 1 = cc in omega arith)
+calm_moves t m₀ (on s m) y e h (by_take {k = k} {b = b} {is = is} q p) =
     let after = (rw q at (taking_calmly t (length is) s m h.0)) b in
-    calm_moves m₀ (k b) y e (rw h.1 at after) p
+    calm_moves t m₀ (k b) y e (rw h.1 at after) p
 
-pub stores_nothing : {t is m m' : List ℕ} {x y : State} → Calm (length is) x → Moves (turn t) (on x m) is [] (on y m') → m' ≡ m
-stores_nothing {m = m} {m' = m'} {x = x} {y = y} h p = (calm_moves m (on x m) (on y m') refl (h, refl) p).1
+pub stores_nothing : (t : List ℕ) {is m m' : List ℕ} {x y : State} → Calm (length is) x → Moves (turn t) (on x m) is [] (on y m') → m' ≡ m
+stores_nothing t {m = m} {m' = m'} {x = x} {y = y} h p = (calm_moves t m (on x m) (on y m') refl (h, refl) p).1
 
 -- ---- a step without room
 pub offered_within : (x : State) (n : ℕ) → offered x n ≤ n
@@ -202,17 +202,17 @@ module _ {t m m' : List ℕ} {y : State} (n : ℕ) where
   apart_from : (x : State) (k : ℕ) (is : List ℕ) → Good t (length m) x → length is ≡ k → k ≤ offered x n → Moves (turn t) (on x m) is [] (on y m') → Parted x m m' (changed x k)
   apart_from x zero [] g l h p = untouched x (let e = unmoved p in cc)
   apart_from x zero (b ∷ is) g l h p = absurd (omega arith)
-  apart_from (Shaking q) (suc k) is g l h p = untouched (Shaking q) (stores_nothing {x = Shaking q} tt p)
+  apart_from (Shaking q) (suc k) is g l h p = untouched (Shaking q) (stores_nothing t {x = Shaking q} tt p)
   apart_from (Serving e (Header got)) (suc k) is g l h p =
-      untouched (Serving e (Header got)) (stores_nothing {x = Serving e (Header got)} (omega arith) p)
+      untouched (Serving e (Header got)) (stores_nothing t {x = Serving e (Header got)} (omega arith) p)
   apart_from (Serving e (Storing handle off left)) (suc k) is g l h p = rw l at (stored_apart e handle off left is g (omega arith) p)
   apart_from (Serving e (Dropping error handle left)) (suc k) is g l h p =
-      untouched (Serving e (Dropping error handle left)) (stores_nothing {x = Serving e (Dropping error handle left)} tt p)
+      untouched (Serving e (Dropping error handle left)) (stores_nothing t {x = Serving e (Dropping error handle left)} tt p)
   apart_from (Serving e (Replying error handle left off len)) (suc k) is g l h p =
-      untouched (Serving e (Replying error handle left off len)) (stores_nothing {x = Serving e (Replying error handle left off len)} tt p)
+      untouched (Serving e (Replying error handle left off len)) (stores_nothing t {x = Serving e (Replying error handle left off len)} tt p)
   apart_from (Serving e (Sending off left)) (suc k) is g l h p =
-      untouched (Serving e (Sending off left)) (stores_nothing {x = Serving e (Sending off left)} tt p)
-  apart_from (Over j) (suc k) is g l h p = untouched (Over j) (stores_nothing {x = Over j} tt p)
+      untouched (Serving e (Sending off left)) (stores_nothing t {x = Serving e (Sending off left)} tt p)
+  apart_from (Over j) (suc k) is g l h p = untouched (Over j) (stores_nothing t {x = Over j} tt p)
 
 -- ---- a step without room, of any state
 module _ {s : Server} {t m : List ℕ} (input : List ℕ) {r : Stepped} {m' : List ℕ} (served : Serves s t m (take (offered (view s) (length input)) input) [] r m' []) where

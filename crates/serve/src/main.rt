@@ -1,4 +1,6 @@
 // serve TABLE IMAGE: serves one connection on standard input and output, and says on standard error how it ended.
+#![tactic(auto)]
+
 mod session;
 mod stepping;
 mod words;
@@ -9,8 +11,10 @@ ghost use Rattle.serve.specs.Files.{OpenedIn};
 
 use host::files::Got;
 use host::words::say;
-use host::{faults, files};
+use host::{args, faults, files};
 use session::Stop;
+use std::fs::File;
+use std::io::Error;
 use wire::table;
 
 // The largest image, and a byte more.
@@ -23,47 +27,49 @@ const PIECE: usize = 262144;
 // The image file, open for reading and writing, and its size.
 #[derive(Drop)]
 enum Opened {
-    Image { fd: i32, size: usize },
+    Image { file: File, size: usize },
     Nothing,
 }
 
 // ---- the table
 
 // The file of this name, and what could not be done with it.
-fn fail(name: &[u8], what: &[u8]) {
+fn fail(name: &[u8], what: &[u8], error: Error) {
     say(b"serve: ");
     say(name);
     say(b": ");
-    os::fail(what);
+    host::words::fail(what, error);
 }
 
-fn read_table(name: &[u8], table: &mut [u8]) -> Got
+fn read_table(rt: &HostRuntime, name: &[u8], table: &mut [u8]) -> Got
     ensures { GotIn (length table.old) result }
 {
-    let fd = os::open_read(name);
-    if fd < 0 {
-        fail(name, b"cannot open the table");
-        return Got::Unreadable;
-    }
-    let got = files::read_file(fd, table);
+    let mut file = match files::open_read(rt, name) {
+        Ok(file) => file,
+        Err(e) => {
+            fail(name, b"cannot open the table", e);
+            return Got::Unreadable(e);
+        }
+    };
+    let got = files::read_file(&mut file, table);
     match got {
         Got::Bytes(_) => {}
-        Got::Unreadable => fail(name, b"cannot read the table"),
+        Got::Unreadable(e) => fail(name, b"cannot read the table", e),
     }
-    libc::close(fd);
     got
 }
 
-fn load_table(table: &mut [u8]) -> Got
+fn load_table(rt: &HostRuntime, table: &mut [u8]) -> Got
     ensures { GotIn (length table.old) result }
 {
     let mut name = io::buffer();
-    let n = os::arg(1, &mut name);
-    if os::errno() != 0 {
-        os::fail(b"serve: the table's name");
-        return Got::Unreadable;
+    match args::get(rt, 1, &mut name) {
+        Ok(n) => read_table(rt, &name[..n], table),
+        Err(e) => {
+            host::words::fail(b"serve: the table's name", e);
+            Got::Unreadable(e)
+        }
     }
-    read_table(&name[..n], table)
 }
 
 // ---- the image
@@ -74,41 +80,44 @@ fn too_large(name: &[u8]) {
     say(b": too large, an image of at most 4194304 bytes can be served\n");
 }
 
-fn read_image(name: &[u8], image: &mut [u8]) -> Opened
+fn read_image(rt: &HostRuntime, name: &[u8], image: &mut [u8]) -> Opened
     ensures { OpenedIn (length image.old) result }
 {
-    let fd = os::open_update(name);
-    if fd < 0 {
-        fail(name, b"cannot open the image to read and write it");
-        return Opened::Nothing;
-    }
-    let got = files::read_file(fd, image);
+    let mut file = match files::open_update(rt, name) {
+        Ok(file) => file,
+        Err(e) => {
+            fail(name, b"cannot open the image to read and write it", e);
+            return Opened::Nothing;
+        }
+    };
+    let got = files::read_file(&mut file, image);
     match got {
         Got::Bytes(size) => {
             if size == image.len() {
                 too_large(name);
                 Opened::Nothing
             } else {
-                Opened::Image { fd, size }
+                Opened::Image { file, size }
             }
         }
-        Got::Unreadable => {
-            fail(name, b"cannot read the image");
+        Got::Unreadable(e) => {
+            fail(name, b"cannot read the image", e);
             Opened::Nothing
         }
     }
 }
 
-fn load_image(image: &mut [u8]) -> Opened
+fn load_image(rt: &HostRuntime, image: &mut [u8]) -> Opened
     ensures { OpenedIn (length image.old) result }
 {
     let mut name = io::buffer();
-    let n = os::arg(2, &mut name);
-    if os::errno() != 0 {
-        os::fail(b"serve: the image's name");
-        return Opened::Nothing;
+    match args::get(rt, 2, &mut name) {
+        Ok(n) => read_image(rt, &name[..n], image),
+        Err(e) => {
+            host::words::fail(b"serve: the image's name", e);
+            Opened::Nothing
+        }
     }
-    read_image(&name[..n], image)
 }
 
 // ---- the session
@@ -127,7 +136,7 @@ fn report(stop: Stop) {
 }
 
 // Serves a table that is sound for the image.
-fn serve(fd: i32, table: &[u8], image: &mut [u8])
+fn serve(rt: &HostRuntime, file: &File, table: &[u8], image: &mut [u8])
     requires { length image.old ≤ 4194304 }
 {
     let c = table::check(table, image.len());
@@ -139,36 +148,33 @@ fn serve(fd: i32, table: &[u8], image: &mut [u8])
     }
     let mut input = [0u8; PIECE];
     let mut room = [0u8; PIECE];
-    report(session::serve(fd, table, image, &mut input, &mut room));
+    report(session::serve(rt.stdin(), file, table, image, &mut input, &mut room));
 }
 
-fn load_and_serve(table: &[u8], image: &mut [u8])
+fn load_and_serve(rt: &HostRuntime, table: &[u8], image: &mut [u8])
     requires { length image.old ≡ 4194305 }
 {
-    let opened = load_image(image);
+    let opened = load_image(rt, image);
     match opened {
-        Opened::Image { fd, size } => {
-            serve(fd, table, &mut image[..size]);
-            libc::close(fd);
-        }
+        Opened::Image { file, size } => serve(rt, &file, table, &mut image[..size]),
         Opened::Nothing => {}
     }
 }
 
-fn run(image: &mut [u8; IMAGE]) {
-    if os::arg_count() != 3 {
+fn run(rt: &HostRuntime, image: &mut [u8; IMAGE]) {
+    if args::count(rt) != 3 {
         say(b"usage: serve TABLE IMAGE\nIt serves one NBD client on standard input and output.\n");
         return;
     }
     let mut table = [0u8; TABLE];
-    let got = load_table(&mut table);
+    let got = load_table(rt, &mut table);
     match got {
-        Got::Bytes(n) => load_and_serve(&table[..n], image),
-        Got::Unreadable => {}
+        Got::Bytes(n) => load_and_serve(rt, &table[..n], image),
+        Got::Unreadable(_) => {}
     }
 }
 
-fn main() {
+fn main(rt: HostRuntime) {
     let mut image = [0u8; IMAGE];
-    run(&mut image);
+    run(&rt, &mut image);
 }

@@ -4,11 +4,14 @@ ghost use Rattle.serve.specs.Session.{Pending};
 
 use crate::stepping;
 use host::files;
-use libc::{STDIN_FILENO, STDOUT_FILENO};
 use server::state::{Outcome, Server};
+use std::fs::File;
+use std::io::{Read, Stdin};
+
+const STDOUT: i32 = 1;
 
 // Why a session stops.
-#[derive(Drop)]
+#[derive(Clone, Copy)]
 pub enum Stop {
     GoesOn,
     Ended(u8),
@@ -22,7 +25,7 @@ pub enum Stop {
 }
 
 // The server, the bytes of the input buffer that it has not taken, and whether the file has bytes that may not have reached its device.
-#[derive(Drop)]
+#[derive(Clone, Copy)]
 pub struct Run {
     pub server: Server,
     pub at: usize,
@@ -61,11 +64,11 @@ impl Run {
 }
 
 // Sends what a step gave. What was stored before it has reached the file's device by then.
-fn send(r: Run, server: Server, fd: i32, given: &[u8]) -> Run
+fn send(r: Run, server: Server, file: &File, given: &[u8]) -> Run
     ensures { (result.at ≡ r.at) × (result.have ≡ r.have) }
 {
     if r.dirty {
-        if libc::fdatasync(fd) < 0 {
+        if file.sync_data().is_err() {
             return r.stopped(Stop::NotKept);
         }
     }
@@ -76,7 +79,7 @@ fn send(r: Run, server: Server, fd: i32, given: &[u8]) -> Run
         dirty: false,
         stop: Stop::GoesOn,
     };
-    if io::write_all(STDOUT_FILENO, given) {
+    if io::write_all(STDOUT, given) {
         next
     } else {
         next.stopped(Stop::NotSent)
@@ -98,15 +101,14 @@ fn close(r: Run) -> Run
 }
 
 // Reads what is there.
-fn read(r: Run, input: &mut [u8]) -> Run
+fn read(r: Run, mut stdin: Stdin, input: &mut [u8]) -> Run
     requires { Pending (length input.old) r }
     ensures { Pending (length input.old) result }
 {
-    let got = libc::read(STDIN_FILENO, input);
-    if got < 0 {
-        return r.stopped(Stop::NotRead);
-    }
-    let n = io::count(got, input);
+    let n = match stdin.read(input) {
+        Ok(n) => n,
+        Err(_) => return r.stopped(Stop::NotRead),
+    };
     if n == 0 {
         return close(r);
     }
@@ -121,10 +123,10 @@ fn read(r: Run, input: &mut [u8]) -> Run
 }
 
 // Writes the bytes to their place in the file.
-fn keep(fd: i32, bytes: &[u8], place: usize) -> Stop
+fn keep(file: &File, bytes: &[u8], place: usize) -> Stop
     requires { place + length bytes.now ≤ 4194304 }
 {
-    if files::put(fd, bytes, place) {
+    if files::put(file, bytes, place) {
         Stop::GoesOn
     } else {
         Stop::NotKept
@@ -132,7 +134,7 @@ fn keep(fd: i32, bytes: &[u8], place: usize) -> Stop
 }
 
 // Takes input that is at hand, and writes what was stored to the file: no byte outside the part that the step changed.
-fn take(r: Run, fd: i32, table: &[u8], image: &mut [u8], input: &[u8]) -> Run
+fn take(r: Run, file: &File, table: &[u8], image: &mut [u8], input: &[u8]) -> Run
     requires { (length image.old ≤ 4194304) × (r.at + length input.now ≡ r.have) }
     ensures { Pending r.have result }
 {
@@ -143,7 +145,7 @@ fn take(r: Run, fd: i32, table: &[u8], image: &mut [u8], input: &[u8]) -> Run
     let p = t.part;
     let a = p.from;
     let b = a + p.len;
-    let stop = keep(fd, &image[a..b], a);
+    let stop = keep(file, &image[a..b], a);
     let server = step.state;
     Run {
         server,
@@ -155,20 +157,28 @@ fn take(r: Run, fd: i32, table: &[u8], image: &mut [u8], input: &[u8]) -> Run
 }
 
 // What is done where nothing is owed.
-fn go_on(r: Run, fd: i32, table: &[u8], image: &mut [u8], input: &mut [u8]) -> Run
+fn go_on(r: Run, stdin: Stdin, file: &File, table: &[u8], image: &mut [u8], input: &mut [u8]) -> Run
     requires { (length image.old ≤ 4194304) × Pending (length input.old) r }
     ensures { Pending (length input.old) result }
 {
     let a = r.at;
     let b = r.have;
     if a < b {
-        take(r, fd, table, image, &input[a..b])
+        take(r, file, table, image, &input[a..b])
     } else {
-        read(r, input)
+        read(r, stdin, input)
     }
 }
 
-fn turn(r: Run, fd: i32, table: &[u8], image: &mut [u8], input: &mut [u8], room: &mut [u8]) -> Run
+fn turn(
+    r: Run,
+    stdin: Stdin,
+    file: &File,
+    table: &[u8],
+    image: &mut [u8],
+    input: &mut [u8],
+    room: &mut [u8],
+) -> Run
     requires { (length image.old ≤ 4194304) × Pending (length input.old) r }
     ensures { Pending (length input.old) result }
 {
@@ -177,11 +187,11 @@ fn turn(r: Run, fd: i32, table: &[u8], image: &mut [u8], input: &mut [u8], room:
     let n = g.given;
     if 0 < n {
         let server = g.state;
-        return send(r, server, fd, &room[..n]);
+        return send(r, server, file, &room[..n]);
     }
     let o = g.outcome;
     match o {
-        Outcome::GoingOn => go_on(r, fd, table, image, input),
+        Outcome::GoingOn => go_on(r, stdin, file, table, image, input),
         Outcome::Ended(n) => r.stopped(Stop::Ended(n)),
         Outcome::Refused(n) => r.stopped(Stop::Refused(n)),
     }
@@ -199,13 +209,20 @@ fn goes_on(s: Stop) -> bool {
 }
 
 // A proved loop has to end, and nothing says that a session does: its turns count down from a number that no run uses up.
-pub fn serve(fd: i32, table: &[u8], image: &mut [u8], input: &mut [u8], room: &mut [u8]) -> Stop
+pub fn serve(
+    stdin: Stdin,
+    file: &File,
+    table: &[u8],
+    image: &mut [u8],
+    input: &mut [u8],
+    room: &mut [u8],
+) -> Stop
     requires { length image.old ≤ 4194304 }
 {
     let mut r = Run::new();
     let mut turns = u64::MAX;
     while turns > 0 {
-        r = turn(r, fd, table, image, input, room);
+        r = turn(r, stdin, file, table, image, input, room);
         let stop = r.stop;
         if goes_on(stop) {
             turns -= 1;

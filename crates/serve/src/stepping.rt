@@ -9,14 +9,14 @@ use server::state::{Phase, Server, Transmission};
 use wire::table::Export;
 
 // A part of the image: so many bytes from a place on.
-#[derive(Drop)]
+#[derive(Clone, Copy)]
 pub struct Part {
     pub from: usize,
     pub len: usize,
 }
 
 // A step, and the part of the image that it may have changed.
-#[derive(Drop)]
+#[derive(Clone, Copy)]
 pub struct Taken {
     pub step: Stepped,
     pub part: Part,
