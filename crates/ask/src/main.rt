@@ -1,5 +1,7 @@
 // ask NAME SCRIPT: connects to the export of this name, the wire being standard input and output, and makes the calls of a script, one to a line.
 // What is read goes to files, and how each call was closed to standard error.
+#![tactic(auto)]
+
 mod obeying;
 mod orders;
 mod talk;
@@ -12,7 +14,7 @@ ghost use Rattle.ask.specs.Talk.{Pending};
 use client::state::Outcome;
 use host::files::Got;
 use host::words::{say, say_number};
-use host::{files, text};
+use host::{args, files, text};
 use orders::Order;
 use talk::Talk;
 
@@ -51,6 +53,7 @@ fn is_nothing(o: Order) -> bool {
 
 // Does what a line says, and tells how it went.
 fn obey_line(
+    rt: &HostRuntime,
     t: Talk,
     k: u64,
     line: &[u8],
@@ -69,11 +72,18 @@ fn obey_line(
     say(b"ask: line ");
     say_number(k);
     say(b": ");
-    obeying::obey(t, o, &name, buffer, input, room)
+    obeying::obey(rt, t, o, &name, buffer, input, room)
 }
 
 // The lines, until the session is over.
-fn obey_all(t: Talk, script: &[u8], buffer: &mut [u8], input: &mut [u8], room: &mut [u8])
+fn obey_all(
+    rt: &HostRuntime,
+    t: Talk,
+    script: &[u8],
+    buffer: &mut [u8],
+    input: &mut [u8],
+    room: &mut [u8],
+)
     requires { Pending (length input.old) t × (length input.old ≤ 262144) }
 {
     let mut r = t;
@@ -86,32 +96,39 @@ fn obey_all(t: Talk, script: &[u8], buffer: &mut [u8], input: &mut [u8], room: &
         }
         let end = text::line_end(script, at);
         k = std::num::wrapping_add_u64(k, 1);
-        r = obey_line(r, k, &script[at..end], buffer, input, room);
+        r = obey_line(rt, r, k, &script[at..end], buffer, input, room);
         at = text::behind(end, script.len());
     }
 }
 
 // The handshake.
-fn shake(name: &mut [u8], input: &mut [u8], room: &mut [u8]) -> Talk
+fn shake(rt: &HostRuntime, name: &mut [u8], input: &mut [u8], room: &mut [u8]) -> Talk
     requires { length input.old ≤ 262144 }
     ensures { Pending (length input.old) result }
 {
     let t = Talk::new();
     let c = t.client;
-    talk::drive(t.called(c.handshake(name)), name, input, room)
+    talk::drive(rt.stdin(), t.called(c.handshake(name)), name, input, room)
 }
 
-fn connect(name: &mut [u8], script: &[u8], buffer: &mut [u8], input: &mut [u8], room: &mut [u8])
+fn connect(
+    rt: &HostRuntime,
+    name: &mut [u8],
+    script: &[u8],
+    buffer: &mut [u8],
+    input: &mut [u8],
+    room: &mut [u8],
+)
     requires { length input.old ≤ 262144 }
 {
-    let r = shake(name, input, room);
+    let r = shake(rt, name, input, room);
     say(b"ask: ");
     let outcome = r.outcome;
     words::say_outcome(outcome);
-    obey_all(r, script, buffer, input, room);
+    obey_all(rt, r, script, buffer, input, room);
 }
 
-fn start(script: &[u8], buffer: &mut [u8], input: &mut [u8], room: &mut [u8])
+fn start(rt: &HostRuntime, script: &[u8], buffer: &mut [u8], input: &mut [u8], room: &mut [u8])
     requires { length input.old ≤ 262144 }
 {
     if script.len() == SCRIPT {
@@ -119,31 +136,38 @@ fn start(script: &[u8], buffer: &mut [u8], input: &mut [u8], room: &mut [u8])
         return;
     }
     let mut name = io::buffer();
-    let n = os::arg(1, &mut name);
-    if os::errno() == 0 {
-        connect(&mut name[..n], script, buffer, input, room);
-    } else {
-        os::fail(b"ask: the export's name");
+    match args::get(rt, 1, &mut name) {
+        Ok(n) => connect(rt, &mut name[..n], script, buffer, input, room),
+        Err(e) => host::words::fail(b"ask: the export's name", e),
     }
 }
 
-fn read_script(script: &mut [u8]) -> Got
+// A name that is too long is none, and no file has it.
+fn script_name(rt: &HostRuntime, word: &mut [u8]) -> usize
+    ensures { result ≤ length word.new }
+{
+    match args::get(rt, 2, word) {
+        Ok(n) => n,
+        Err(_) => 0,
+    }
+}
+
+fn read_script(rt: &HostRuntime, script: &mut [u8]) -> Got
     ensures { GotIn (length script.old) result }
 {
     let mut word = io::buffer();
-    let n = os::arg(2, &mut word);
-    let fd = os::open_read(&word[..n]);
-    if fd < 0 {
-        os::fail(b"ask: the script");
-        return Got::Unreadable;
+    let n = script_name(rt, &mut word);
+    match files::open_read(rt, &word[..n]) {
+        Ok(mut file) => files::read_file(&mut file, script),
+        Err(e) => {
+            host::words::fail(b"ask: the script", e);
+            Got::Unreadable(e)
+        }
     }
-    let got = files::read_file(fd, script);
-    libc::close(fd);
-    got
 }
 
-fn run(buffer: &mut [u8; BUFFER]) {
-    if os::arg_count() != 3 {
+fn run(rt: &HostRuntime, buffer: &mut [u8; BUFFER]) {
+    if args::count(rt) != 3 {
         say(b"usage: ask NAME SCRIPT\n");
         say(
             b"It speaks NBD on standard input and output, and makes the calls of the script, one to a line:\n",
@@ -154,14 +178,14 @@ fn run(buffer: &mut [u8; BUFFER]) {
     let mut script = [0u8; SCRIPT];
     let mut input = [0u8; PIECE];
     let mut room = [0u8; PIECE];
-    let got = read_script(&mut script);
+    let got = read_script(rt, &mut script);
     match got {
-        Got::Bytes(n) => start(&script[..n], buffer, &mut input, &mut room),
-        Got::Unreadable => {}
+        Got::Bytes(n) => start(rt, &script[..n], buffer, &mut input, &mut room),
+        Got::Unreadable(_) => {}
     }
 }
 
-fn main() {
+fn main(rt: HostRuntime) {
     let mut buffer = [0u8; BUFFER];
-    run(&mut buffer);
+    run(&rt, &mut buffer);
 }

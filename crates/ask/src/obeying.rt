@@ -1,5 +1,6 @@
 // The calls that the orders name. Each answers how its call was closed.
 ghost use Rattle.std.specs.Prelude.{◌≤◌, length};
+ghost use Rattle.host.specs.Files.{GotIn};
 ghost use Rattle.ask.specs.Talk.{Pending};
 ghost use Rattle.ask.specs.Orders.{OrderIn};
 
@@ -10,22 +11,23 @@ use client::Called;
 use client::state::{Outcome, SeekFrom, Value};
 use host::files;
 use host::files::Got;
-use host::words::say;
+use host::words::{fail, say};
 use machine::copy;
+use std::io::{Stdin, Write};
 
 // Drives a call until it is closed, and says how that went.
-fn told(t: Talk, lent: &mut [u8], input: &mut [u8], room: &mut [u8]) -> Talk
+fn told(stdin: Stdin, t: Talk, lent: &mut [u8], input: &mut [u8], room: &mut [u8]) -> Talk
     requires { Pending (length input.old) t × (length input.old ≤ 262144) }
     ensures { Pending (length input.old) result }
 {
-    let r = talk::drive(t, lent, input, room);
+    let r = talk::drive(stdin, t, lent, input, room);
     let o = r.outcome;
     words::say_outcome(o);
     r
 }
 
 // How many bytes a read got.
-#[derive(Drop)]
+#[derive(Clone, Copy)]
 enum Count {
     Bytes(usize),
     Nothing,
@@ -51,30 +53,38 @@ fn counted(o: Outcome) -> Count {
 }
 
 // Writes what was read to the file.
-fn save(name: &[u8], bytes: &[u8]) {
-    let fd = os::open_overwrite(name);
-    if fd < 0 {
-        os::fail(b"the file cannot be written");
-        return;
+fn save(rt: &HostRuntime, name: &[u8], bytes: &[u8]) {
+    let mut file = match files::open_overwrite(rt, name) {
+        Ok(file) => file,
+        Err(e) => {
+            fail(b"the file cannot be written", e);
+            return;
+        }
+    };
+    match file.write_all(bytes) {
+        Ok(()) => {}
+        Err(e) => fail(b"the file cannot be written", e),
     }
-    let written = io::write_all(fd, bytes);
-    if !written {
-        os::fail(b"the file cannot be written");
-    }
-    libc::close(fd);
 }
 
-fn read(t: Talk, name: &[u8], buffer: &mut [u8], input: &mut [u8], room: &mut [u8]) -> Talk
+fn read(
+    rt: &HostRuntime,
+    t: Talk,
+    name: &[u8],
+    buffer: &mut [u8],
+    input: &mut [u8],
+    room: &mut [u8],
+) -> Talk
     requires { Pending (length input.old) t × (length input.old ≤ 262144) }
     ensures { Pending (length input.old) result }
 {
     let c = t.client;
-    let r = told(t.called(c.read(buffer)), buffer, input, room);
+    let r = told(rt.stdin(), t.called(c.read(buffer)), buffer, input, room);
     let o = r.outcome;
     match counted(o) {
         Count::Bytes(k) => {
             let n = copy::least(k, buffer.len());
-            save(name, &buffer[..n]);
+            save(rt, name, &buffer[..n]);
         }
         Count::Nothing => {}
     }
@@ -82,6 +92,7 @@ fn read(t: Talk, name: &[u8], buffer: &mut [u8], input: &mut [u8], room: &mut [u
 }
 
 fn read_some(
+    rt: &HostRuntime,
     t: Talk,
     n: u64,
     name: &[u8],
@@ -95,21 +106,28 @@ fn read_some(
     let k = n as usize;
     if buffer.len() < k {
         say(b"only its first bytes: ");
-        return read(t, name, buffer, input, room);
+        return read(rt, t, name, buffer, input, room);
     }
-    read(t, name, &mut buffer[..k], input, room)
+    read(rt, t, name, &mut buffer[..k], input, room)
 }
 
-fn write(t: Talk, buffer: &mut [u8], input: &mut [u8], room: &mut [u8]) -> Talk
+fn write(stdin: Stdin, t: Talk, buffer: &mut [u8], input: &mut [u8], room: &mut [u8]) -> Talk
     requires { Pending (length input.old) t × (length input.old ≤ 262144) }
     ensures { Pending (length input.old) result }
 {
     let c = t.client;
-    told(t.called(c.write(buffer)), buffer, input, room)
+    told(stdin, t.called(c.write(buffer)), buffer, input, room)
 }
 
 // The first n bytes of the buffer. Where they fill it, the file may have more, and nothing is sent.
-fn write_some(t: Talk, n: usize, buffer: &mut [u8], input: &mut [u8], room: &mut [u8]) -> Talk
+fn write_some(
+    stdin: Stdin,
+    t: Talk,
+    n: usize,
+    buffer: &mut [u8],
+    input: &mut [u8],
+    room: &mut [u8],
+) -> Talk
     requires { Pending (length input.old) t × (length input.old ≤ 262144) × (n ≤ length buffer.old) }
     ensures { Pending (length input.old) result }
 {
@@ -117,39 +135,51 @@ fn write_some(t: Talk, n: usize, buffer: &mut [u8], input: &mut [u8], room: &mut
         say(b"the file is too large, one call moves at most 4194304 bytes\n");
         return t;
     }
-    write(t, &mut buffer[..n], input, room)
+    write(stdin, t, &mut buffer[..n], input, room)
 }
 
-fn write_file(t: Talk, name: &[u8], buffer: &mut [u8], input: &mut [u8], room: &mut [u8]) -> Talk
+// What the file of this name holds.
+fn load(rt: &HostRuntime, name: &[u8], buffer: &mut [u8]) -> Got
+    ensures { GotIn (length buffer.old) result }
+{
+    match files::open_read(rt, name) {
+        Ok(mut file) => files::read_file(&mut file, buffer),
+        Err(e) => Got::Unreadable(e),
+    }
+}
+
+fn write_file(
+    rt: &HostRuntime,
+    t: Talk,
+    name: &[u8],
+    buffer: &mut [u8],
+    input: &mut [u8],
+    room: &mut [u8],
+) -> Talk
     requires { Pending (length input.old) t × (length input.old ≤ 262144) }
     ensures { Pending (length input.old) result }
 {
-    let fd = os::open_read(name);
-    if fd < 0 {
-        os::fail(b"the file cannot be read");
-        return t;
-    }
-    let got = files::read_file(fd, buffer);
-    libc::close(fd);
+    let got = load(rt, name, buffer);
     match got {
-        Got::Bytes(n) => write_some(t, n, buffer, input, room),
-        Got::Unreadable => {
-            os::fail(b"the file cannot be read");
+        Got::Bytes(n) => write_some(rt.stdin(), t, n, buffer, input, room),
+        Got::Unreadable(e) => {
+            fail(b"the file cannot be read", e);
             t
         }
     }
 }
 
 // A call that lends no buffer.
-fn without(t: Talk, c: Called, input: &mut [u8], room: &mut [u8]) -> Talk
+fn without(stdin: Stdin, t: Talk, c: Called, input: &mut [u8], room: &mut [u8]) -> Talk
     requires { Pending (length input.old) t × (length input.old ≤ 262144) }
     ensures { Pending (length input.old) result }
 {
     let mut none = [0u8; 0];
-    told(t.called(c), &mut none, input, room)
+    told(stdin, t.called(c), &mut none, input, room)
 }
 
 pub fn obey(
+    rt: &HostRuntime,
     t: Talk,
     o: Order,
     name: &[u8],
@@ -163,14 +193,20 @@ pub fn obey(
     let c = t.client;
     match o {
         Order::Nothing => t,
-        Order::Read { n, file } => read_some(t, n, &name[..file], buffer, input, room),
-        Order::Write { file } => write_file(t, &name[..file], buffer, input, room),
-        Order::SeekStart(p) => without(t, c.seek(SeekFrom::Start(p)), input, room),
-        Order::SeekPosition(by) => without(t, c.seek(SeekFrom::Current(by)), input, room),
-        Order::SeekEnd(by) => without(t, c.seek(SeekFrom::End(by)), input, room),
-        Order::Flush => without(t, c.flush(), input, room),
-        Order::Trim(n) => without(t, c.trim(n), input, room),
-        Order::Resize(n) => without(t, c.resize(n), input, room),
+        Order::Read { n, file } => read_some(rt, t, n, &name[..file], buffer, input, room),
+        Order::Write { file } => write_file(rt, t, &name[..file], buffer, input, room),
+        Order::SeekStart(p) => without(rt.stdin(), t, c.seek(SeekFrom::Start(p)), input, room),
+        Order::SeekPosition(by) => without(
+            rt.stdin(),
+            t,
+            c.seek(SeekFrom::Current(by)),
+            input,
+            room,
+        ),
+        Order::SeekEnd(by) => without(rt.stdin(), t, c.seek(SeekFrom::End(by)), input, room),
+        Order::Flush => without(rt.stdin(), t, c.flush(), input, room),
+        Order::Trim(n) => without(rt.stdin(), t, c.trim(n), input, room),
+        Order::Resize(n) => without(rt.stdin(), t, c.resize(n), input, room),
         Order::Bad => {
             say(
                 b"read N FILE, write FILE, seek start|position|end N, flush, trim N or resize N is meant\n",

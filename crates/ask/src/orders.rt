@@ -6,7 +6,7 @@ use host::text;
 use host::text::{Name, Number};
 
 // A file's name is so many bytes of the name buffer.
-#[derive(Drop)]
+#[derive(Clone, Copy)]
 pub enum Order {
     Nothing,
     Read { n: u64, file: usize },
@@ -20,14 +20,14 @@ pub enum Order {
     Bad,
 }
 
-#[derive(Drop)]
+#[derive(Clone, Copy)]
 enum Signed {
     Is(i64),
     Bad,
 }
 
 // The last number of a line.
-#[derive(Drop)]
+#[derive(Clone, Copy)]
 enum Last {
     Is(u64),
     Bad,

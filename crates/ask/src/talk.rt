@@ -4,10 +4,12 @@ ghost use Rattle.ask.specs.Talk.{Pending, Steps};
 
 use client::state::{Client, Outcome};
 use client::{Called, Stepped};
-use libc::{STDIN_FILENO, STDOUT_FILENO};
+use std::io::{Read, Stdin};
+
+const STDOUT: i32 = 1;
 
 // The client, the bytes of the input buffer that it has not taken, and how the last call stands.
-#[derive(Drop)]
+#[derive(Clone, Copy)]
 pub struct Talk {
     pub client: Client,
     pub at: usize,
@@ -44,13 +46,15 @@ impl Talk {
 }
 
 // Reads what is there; at its end, the client is told so.
-fn read(t: Talk, input: &mut [u8]) -> Talk
+fn read(mut stdin: Stdin, t: Talk, input: &mut [u8]) -> Talk
     requires { Pending (length input.old) t }
     ensures { Pending (length input.old) result }
 {
     let client = t.client;
-    let got = libc::read(STDIN_FILENO, input);
-    let n = io::count(got, input);
+    let n = match stdin.read(input) {
+        Ok(n) => n,
+        Err(_) => 0,
+    };
     if n == 0 {
         return t.called(client.end_of_input());
     }
@@ -101,7 +105,7 @@ fn waits(t: Talk, given: usize) -> bool {
 }
 
 // Takes and gives as far as both go, and sends what was given. Where nothing moves, input is awaited.
-fn turn(t: Talk, lent: &mut [u8], input: &mut [u8], room: &mut [u8]) -> Talk
+fn turn(stdin: Stdin, t: Talk, lent: &mut [u8], input: &mut [u8], room: &mut [u8]) -> Talk
     requires { Pending (length input.old) t × (length input.old ≤ 262144) }
     ensures { Pending (length input.old) result }
 {
@@ -110,16 +114,16 @@ fn turn(t: Talk, lent: &mut [u8], input: &mut [u8], room: &mut [u8]) -> Talk
     let c = t.client;
     let s = step(c, &input[a..b], room, lent);
     let n = s.given;
-    io::write_all(STDOUT_FILENO, &room[..n]);
+    io::write_all(STDOUT, &room[..n]);
     let next = advanced(t, s);
     if waits(next, n) {
-        return read(next, input);
+        return read(stdin, next, input);
     }
     next
 }
 
 // A proved loop has to end, and nothing says that a server answers: its turns count down from a number that no run uses up.
-pub fn drive(t: Talk, lent: &mut [u8], input: &mut [u8], room: &mut [u8]) -> Talk
+pub fn drive(stdin: Stdin, t: Talk, lent: &mut [u8], input: &mut [u8], room: &mut [u8]) -> Talk
     requires { Pending (length input.old) t × (length input.old ≤ 262144) }
     ensures { Pending (length input.old) result }
 {
@@ -128,7 +132,7 @@ pub fn drive(t: Talk, lent: &mut [u8], input: &mut [u8], room: &mut [u8]) -> Tal
     while turns > 0 {
         let o = r.outcome;
         if is_open(o) {
-            r = turn(r, lent, input, room);
+            r = turn(stdin, r, lent, input, room);
             turns -= 1;
         } else {
             turns = 0;
