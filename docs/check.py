@@ -1,8 +1,8 @@
 #!/usr/bin/env python3
 """docs/check.py: what can be checked of the documents by their text. Each name in docs/RULES.md stands in the file that it
 names; each name in the list at a specification's head is defined there, and each definition is in the list; no document
-has a line of more than 120 columns, but for tables; no contract has one of more than 160. Prints what is wrong; the exit
-status is 1 if anything is."""
+has a line of more than 120 columns, but for tables and docs/PORT.md, which sets old lines beside new ones; no contract
+has one of more than 160. Prints what is wrong; the exit status is 1 if anything is."""
 import glob
 import os
 import re
@@ -125,6 +125,8 @@ def rules():
 
 def widths():
     for path in ["README.md", *sorted(glob.glob("docs/*.md")), *sorted(glob.glob("*/README.md"))]:
+        if path == "docs/PORT.md":
+            continue
         for number, line in enumerate(read(path).split("\n"), 1):
             if len(line) > 120 and not line.startswith("|"):
                 yield f"{path}:{number}: {len(line)} columns"

@@ -13,7 +13,7 @@ import check
 SPEC = """-- What it is.
 --   good n, Kind   a definition and a type
 --   gone           not there
-use lib.ListN.{length}
+use Rattle.std.specs.Prelude.{length}
 
 abbrev pub good : ℕ → ℕ
 good n = n
