@@ -1,7 +1,7 @@
 #!/usr/bin/env python3
 """Shows where the crate and the port differ, and where both leave the protocol text: the smallest inputs, run on both.
 
-    rt check trace && python3 oracle/differences.py [--crate LIB.RS]
+    (cd crates/trace && rt run </dev/null); python3 oracle/differences.py [--crate LIB.RS]
 
 Prints the fronts of the rows of docs/DIFFERENCES.md; the last line says whether all stand there, status 1 if not.
 """

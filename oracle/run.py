@@ -1,19 +1,17 @@
 #!/usr/bin/env python3
 """Holds the port against the crate nbd 0.3.1: the same sessions on both, every answer compared.
 
-    rt check trace && python3 oracle/run.py [--sessions N] [--seed N] [--crate LIB.RS]
+    (cd crates/trace && rt run </dev/null); python3 oracle/run.py [--sessions N] [--seed N] [--crate LIB.RS]
 
 Builds the crate unchanged from LIB.RS (../shared/docs/src/lib.rs) with Debian's byteorder, runs each session on it, and plays the session
 on the program `trace` in one piece and cut, up to N sessions (1,200,000; the families that are tried whole are through by then). The last line
-says how many sessions were compared; the first difference stops it with status 1, and is kept in target/oracle/difference.
+says how many sessions were compared; the first difference stops it with status 1, and is kept in out/oracle/difference.
 """
 import argparse
 import collections
 import itertools
 import os
-import platform
 import random
-import shutil
 import subprocess
 import sys
 import time
@@ -22,20 +20,13 @@ import script
 import sessions
 
 ROOT = os.path.dirname(os.path.dirname(os.path.abspath(__file__)))
-OUT = os.path.join(ROOT, "target", "oracle")
+OUT = os.path.join(ROOT, "out", "oracle")
 CRATE = os.path.join(ROOT, "..", "shared", "docs", "src", "lib.rs")
 BATCH = 4000
 
 
 def trace_command():
-    """As it is on x86-64; elsewhere under the kit's emulator and loader."""
-    program = os.path.join(ROOT, "target", "bin", "trace")
-    if platform.machine() == "x86_64":
-        return [program]
-    kit = os.environ.get("RATTLE_HOME") or os.path.dirname(os.path.dirname(os.path.realpath(shutil.which("rt"))))
-    tools = os.path.join(kit, "on", platform.machine(), "toolchain")
-    lib = os.path.join(tools, "lib")
-    return [os.path.join(tools, "bin", "qemu-x86_64"), os.path.join(lib, "ld-linux-x86-64.so.2"), "--library-path", lib, program]
+    return [os.path.join(ROOT, "crates", "trace", "out", "trace")]
 
 
 def build(crate):

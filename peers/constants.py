@@ -43,8 +43,8 @@ IN_NO_HEADER = """
 """.split()
 # The kernel's structs: for each member the fields of ours that it spans.
 STRUCTS = {
-    "request": ("nbd_request", {"magic": ["NBD-REQUEST-MAGIC"], "type": ["flags", "type"], "handle": ["handle"], "from": ["offset"], "len": ["len"]}),
-    "simpleReply": ("nbd_reply", {"magic": ["NBD-REPLY-MAGIC"], "error": ["error"], "handle": ["handle"]}),
+    "request": ("nbd_request", {"magic": ["NBD_REQUEST_MAGIC"], "type": ["flags", "type"], "handle": ["handle"], "from": ["offset"], "len": ["len"]}),
+    "simple_reply": ("nbd_reply", {"magic": ["NBD_REPLY_MAGIC"], "error": ["error"], "handle": ["handle"]}),
 }
 
 
@@ -62,7 +62,7 @@ def defined(wire):
     for head, name, value in re.findall(r"^abbrev pub (\S+) : .*\n(\S+) = (.*)$", read(wire, "specs", "Constants.antt"), re.M):
         assert head == name, f"{head} is followed by {name}"
         *listed, last = value.split(" ∷ ")
-        found[name.replace("-", "_").upper()] = bytes(int(b, 0) for b in listed) if last == "[]" else int(last, 0)
+        found[name.upper()] = bytes(int(b, 0) for b in listed) if last == "[]" else int(last, 0)
     return found
 
 
