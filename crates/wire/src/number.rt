@@ -26,6 +26,9 @@ pub fn clamp_usize_to_u32(x: usize) -> u32
     clamp_to_u32(x as u64)
 }
 
+// The i64 that has no negation.
+const LOWEST: i64 = -0x8000_0000_0000_0000;
+
 // The position p moved by d. The lowest d has no negation in its type and is refused.
 pub fn checked_add_i64(p: u64, d: i64) -> Added
     ensures { sum_of result ≡ added p d }
@@ -37,7 +40,7 @@ pub fn checked_add_i64(p: u64, d: i64) -> Added
         }
         return Added::Sum(p + up);
     }
-    if d == -0x8000_0000_0000_0000 {
+    if d == LOWEST {
         return Added::Outside;
     }
     let down = (-d) as u64;

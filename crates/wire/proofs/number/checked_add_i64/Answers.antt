@@ -37,30 +37,30 @@ returns-then-d-ge0 c =
     let size = ap nat_abs (back c.args.d c.ranges.d) in
     rw (back c.args.d c.ranges.d) (sym (up_sum c.args.p c.args.d (read_back c.args.d c.ranges.d c.if-d-ge0.true) (omega arith)))
 
-pub returns-then-d-eqminus9223372036854775808 : goal.returns-then-d-eqminus9223372036854775808
-returns-then-d-eqminus9223372036854775808 c =
-    sym (lowest_outside c.args.p c.args.d (read_back c.args.d c.ranges.d c.if-d-ge0.false) c.if-d-eqminus9223372036854775808.true)
+pub returns-then-d-eq-LOWEST : goal.returns-then-d-eq-LOWEST
+returns-then-d-eq-LOWEST c =
+    sym (lowest_outside c.args.p c.args.d (read_back c.args.d c.ranges.d c.if-d-ge0.false) c.if-d-eq-LOWEST.true)
 
 pub overflow_sub-down : goal.overflow_sub-down
 overflow_sub-down c =
     let down : le_z (pos 0) c.args.d ≡ false = (read_back c.args.d c.ranges.d c.if-d-ge0.false) in
-    rw (back c.args.d c.ranges.d, negated c.args.d down) (negated_fits c.args.d c.ranges.d down c.if-d-eqminus9223372036854775808.false)
+    rw (back c.args.d c.ranges.d, negated c.args.d down) (negated_fits c.args.d c.ranges.d down c.if-d-eq-LOWEST.false)
 
 pub overflow_cast-down : goal.overflow_cast-down
 overflow_cast-down c =
     let down : le_z (pos 0) c.args.d ≡ false = (read_back c.args.d c.ranges.d c.if-d-ge0.false) in
-    let f = (negated_fits c.args.d c.ranges.d down c.if-d-eqminus9223372036854775808.false).sfits in
-    rw (down-back c.args.d c.ranges.d down c.if-d-eqminus9223372036854775808.false) (tt, omega arith)
+    let f = (negated_fits c.args.d c.ranges.d down c.if-d-eq-LOWEST.false).sfits in
+    rw (down-back c.args.d c.ranges.d down c.if-d-eq-LOWEST.false) (tt, omega arith)
 
 pub returns-then-down-p : goal.returns-then-down-p
 returns-then-down-p c =
     let down : le_z (pos 0) c.args.d ≡ false = (read_back c.args.d c.ranges.d c.if-d-ge0.false) in
-    let size = ap nat_abs (down-back c.args.d c.ranges.d down c.if-d-eqminus9223372036854775808.false) in
-    sym (down_outside c.args.p c.args.d down c.if-d-eqminus9223372036854775808.false (omega arith))
+    let size = ap nat_abs (down-back c.args.d c.ranges.d down c.if-d-eq-LOWEST.false) in
+    sym (down_outside c.args.p c.args.d down c.if-d-eq-LOWEST.false (omega arith))
 
 pub returns-else-down-p : goal.returns-else-down-p
 returns-else-down-p c =
     let down : le_z (pos 0) c.args.d ≡ false = (read_back c.args.d c.ranges.d c.if-d-ge0.false) in
-    let size = ap nat_abs (down-back c.args.d c.ranges.d down c.if-d-eqminus9223372036854775808.false) in
-    rw (down-back c.args.d c.ranges.d down c.if-d-eqminus9223372036854775808.false)
-    (sym (down_sum c.args.p c.args.d down c.if-d-eqminus9223372036854775808.false (omega arith)))
+    let size = ap nat_abs (down-back c.args.d c.ranges.d down c.if-d-eq-LOWEST.false) in
+    rw (down-back c.args.d c.ranges.d down c.if-d-eq-LOWEST.false)
+    (sym (down_sum c.args.p c.args.d down c.if-d-eq-LOWEST.false (omega arith)))
