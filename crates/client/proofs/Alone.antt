@@ -4,7 +4,7 @@
 --   handshake_old   an old-style server, and the empty name
 --   call_alone      a call and a good reply, with a read's data behind it
 --   call_fails      a call and a reply with an error
---   carried-..      and so how many bytes are carried, as 01 has it ("Carried bytes")
+--   carried_..      and so how many bytes are carried, as 01 has it ("Carried bytes")
 use Prim.Native.Nat.{ℕ, suc, ◌+◌, ◌-◌, ◌%◌, ◌^◌, ◌≤◌, ◌<◌}
 use mathlib.Core.Path.{◌≡◌, refl, sym, ap, ◌∙◌}
 use mathlib.Core.Bool.{Bool, true, false}

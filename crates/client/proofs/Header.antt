@@ -1,7 +1,7 @@
 -- Bytes gathered in `head`, and what they are judged to be.
 --   magic_part, style_part, terms_part, reply_part    where more are to come, none is judged
 --   part_waits     so the state waits with the bytes that are there
---   magic-.., style-.., terms-.., reply_whole         all are there
+--   magic_.., style_.., terms_.., reply_whole         all are there
 --   take_part      a part of the first bytes is a part of all
 --   taken_below, test_below    fewer bytes than there are
 use Prim.Native.Nat.{ℕ, zero, suc, ◌+◌, ◌%◌, ◌≤◌, ◌<◌}

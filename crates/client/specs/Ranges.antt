@@ -4,7 +4,7 @@
 --   ends n        whether n is a number that ends a session
 --   ranged x      whether a state is within its ranges
 --   tidy s        whether the bytes of `head` that the phase does not use are 0
---   inRange s     both: else the client is refused as 53
+--   in_range s    both: else the client is refused as 53
 --   lent_to c      how many bytes are lent while the call is open
 --   same_loan k x  whether what is lent, k bytes, has the length that it had at the start
 --   refusal k s   why a step is refused, with k bytes lent: 53, then 52; 0 where it is not

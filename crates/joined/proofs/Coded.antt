@@ -14,7 +14,7 @@ use Rattle.machine.specs.Wires.{Sys, sys, Exec, done}
 use Rattle.machine.proofs.Follows.{follows_goes}
 use Rattle.machine.proofs.Pieces.{exec_then, client_goes, server_goes}
 use Rattle.server.specs.Session.{State, turn}
-use Rattle.server.specs.View.{view as viewed-server}
+use Rattle.server.specs.View.{view as viewed_server}
 use Rattle.server.specs.Ranges.{refusal}
 use Rattle.server.specs.Contract.{Serves}
 use Rattle.server.specs.declared.state.Server.{Server}
@@ -97,7 +97,7 @@ module _ {t : List ℕ} where
 
 -- ---- the machines
 abbrev pub stands : Code → Sys Driver (On State)
-stands (joint c m ks rs s img u d) = sys (settle (on (view c) m) ks rs) (on (viewed-server s) img) u d
+stands (joint c m ks rs s img u d) = sys (settle (on (view c) m) ks rs) (on (viewed_server s) img) u d
 
 -- where a step of the client leads
 pub stepped : (ks : List Call) (rs : List Result) (r : driven.Stepped) (x : client.State) (m : List ℕ) → r.state ≡ code (after x) → r.outcome ≡ outcome_of x
@@ -108,8 +108,8 @@ module _ {t : List ℕ} {cu cd : ℕ} where
   pub move_exec : {b : Traffic} {x z : Code} → Move t cu cd b x z → Fits t x → Exec drive (turn t) cu cd b (stands x) (stands z) × Fits t z
   move_exec (client_step {c = c} {m = m} {ks = ks} {rs = rs} {s = s} {img = img} {u = u} {d = d} n room r m' room' h p) f =
       let a = p.accepts f.client_fits in
-      let g : Exec drive (turn t) cu cd (client_bytes (take r.taken d) (take r.given room')) (sys (settle (on (view c) m) ks rs) (on (viewed-server s) img) u d)
-      (sys (settle (on a.place m') ks rs) (on (viewed-server s) img) (u ++ take r.given room') (drop r.taken d)) =
+      let g : Exec drive (turn t) cu cd (client_bytes (take r.taken d) (take r.given room')) (sys (settle (on (view c) m) ks rs) (on (viewed_server s) img) u d)
+      (sys (settle (on a.place m') ks rs) (on (viewed_server s) img) (u ++ take r.given room') (drop r.taken d)) =
       client_goes n (follows_goes (λ x. settle x ks rs) (followed ks rs) a.steps.goes) h in
       (rw (stepped ks rs r a.place m' a.state a.outcome) at g, fit_step p f)
   move_exec (server_step n room r img' room' h p) f = (server_goes n (p.accepts f.server_fits).steps.goes h, fit_serve p f)

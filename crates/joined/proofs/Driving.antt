@@ -29,7 +29,7 @@ use Rattle.client.specs.declared.state.Client.{Client}
 use Rattle.client.specs.declared.state.Outcome.TheVariants.{Succeeded}
 use Rattle.client.specs.declared.Called.{Called}
 use Rattle.client.specs.declared.CallCheck.{CallCheck}
-use Rattle.client.specs.declared.CallCheck.TheVariants as may-be
+use Rattle.client.specs.declared.CallCheck.TheVariants as may_be
 use Rattle.wire.specs.Results.{Result}
 use Rattle.joined.specs.Disk.{Call, read, write, seek, flush, trim}
 use Rattle.joined.specs.Code.{seek_from, calls, buffer, collected}
@@ -75,7 +75,7 @@ module _ (c : Client) (d : Device) (ready : view c ≡ Ready d) where
   sought_made (some p) = (refl, refl)
 
   module _ (fine : in_range c ≡ true) where
-    may_on : call_check c ≡ may-be.On d
+    may_on : call_check c ≡ may_be.On d
     may_on = rw (fine, ready)
 
     pub made : (k : Call) → Made d (begin d k) (calls k c)

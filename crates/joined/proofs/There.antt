@@ -13,19 +13,19 @@ use Rattle.machine.specs.Pieces.{Steps}
 use Rattle.machine.specs.Traffic.{Traffic, client_bytes, server_bytes, total}
 use Rattle.machine.proofs.There.{step_there}
 use Rattle.server.specs.Session as server
-use Rattle.server.specs.View as viewed-server
-use Rattle.server.specs.Ranges as refused-server
-use Rattle.server.specs.Contract as served-contract
+use Rattle.server.specs.View as viewed_server
+use Rattle.server.specs.Ranges as refused_server
+use Rattle.server.specs.Contract as served_contract
 use Rattle.server.specs.Contract.{Serves}
 use Rattle.server.specs.declared.state.Server.{Server}
 use Rattle.server.specs.declared.Stepped as served
-use Rattle.server.specs.declared.state.Outcome.TheVariants as server-outcome
+use Rattle.server.specs.declared.state.Outcome.TheVariants as server_outcome
 use Rattle.server.proofs.Tidy.{stands_for}
-use Rattle.server.proofs.Bounds as server-bounds
+use Rattle.server.proofs.Bounds as server_bounds
 use Rattle.server.proofs.Kept.{next_good}
-use Rattle.server.proofs.Numbers as served-numbers
+use Rattle.server.proofs.Numbers as served_numbers
 use Rattle.client.proofs.Numbers.{numbered, valued}
-use Rattle.server.proofs.Result.{within as served-within}
+use Rattle.server.proofs.Result.{within as served_within}
 use Rattle.client.specs.Session as client
 use Rattle.client.specs.View.{view, code}
 use Rattle.client.specs.Ranges.{refusal}
@@ -33,7 +33,7 @@ use Rattle.client.specs.Contract.{after, outcome_of, Drives}
 use Rattle.client.specs.declared.state.Client.{Client}
 use Rattle.client.specs.declared.state.Outcome.TheVariants.{Refused}
 use Rattle.client.specs.declared.Stepped as driven
-use Rattle.client.proofs.Result.{within as driven-within}
+use Rattle.client.proofs.Result.{within as driven_within}
 use Rattle.wire.specs.Results.{Result}
 use Rattle.joined.specs.Disk.{Call}
 use Rattle.joined.specs.Code.{Code, joint, client_at, server_at, Move, client_step, server_step, ClientCarries, ServerCarries}
@@ -77,32 +77,32 @@ pub record Served (s : Server) (t img input room : List ℕ) : Type 0 where
   pub serves : Serves s t img input room result image room'
 
 pub serves_there : (s : Server) (t img input room : List ℕ) → Served s t img input room
-serves_there s t img input room = go (refused-server.refusal t (length img) s) refl
+serves_there s t img input room = go (refused_server.refusal t (length img) s) refl
   where
-    accepted : refused-server.refusal t (length img) s ≡ 0 → (y : On server.State) (taken given : ℕ) (room' : List ℕ)
-        → Steps (server.turn t) (on (viewed-server.view s) img) input room taken given y room' → Served s t img input room
+    accepted : refused_server.refusal t (length img) s ≡ 0 → (y : On server.State) (taken given : ℕ) (room' : List ℕ)
+        → Steps (server.turn t) (on (viewed_server.view s) img) input room taken given y room' → Served s t img input room
     accepted fine (on x img') taken given room' p =
-        let g = next_good p.goes.moves (server-bounds.accepted t (length img) s fine) in
-        let v : viewed-server.view (viewed-server.code x) ≡ x = stands_for x g.within refl in
+        let g = next_good p.goes.moves (server_bounds.accepted t (length img) s fine) in
+        let v : viewed_server.view (viewed_server.code x) ≡ x = stands_for x g.within refl in
         record {
-          result = record { state = viewed-server.code x; taken = taken; given = given; outcome = served-contract.outcome_of x };
+          result = record { state = viewed_server.code x; taken = taken; given = given; outcome = served_contract.outcome_of x };
           image = img';
           room' = room';
           serves = record {
             refuses = λ no. absurd (no fine);
             accepts = λ _. record {
               steps = rw v p;
-              one_struct = ap viewed-server.code (sym v);
-              outcome = ap served-contract.outcome_of (sym v);
-              number = rw v (served-numbers.numbered x);
+              one_struct = ap viewed_server.code (sym v);
+              outcome = ap served_contract.outcome_of (sym v);
+              number = rw v (served_numbers.numbered x);
             };
           };
         }
 
-    go : (n : ℕ) → refused-server.refusal t (length img) s ≡ n → Served s t img input room
-    go zero e = let w = step_there (on (viewed-server.view s) img) input room in accepted e w.place w.taken w.given w.room' w.steps
+    go : (n : ℕ) → refused_server.refusal t (length img) s ≡ n → Served s t img input room
+    go zero e = let w = step_there (on (viewed_server.view s) img) input room in accepted e w.place w.taken w.given w.room' w.steps
     go (suc n) e = record {
-      result = record { state = s; taken = 0; given = 0; outcome = server-outcome.Refused (refused-server.refusal t (length img) s) };
+      result = record { state = s; taken = 0; given = 0; outcome = server_outcome.Refused (refused_server.refusal t (length img) s) };
       image = img;
       room' = room;
       serves = record {
@@ -131,7 +131,7 @@ module _ {t : List ℕ} {cu cd : ℕ} (c : Client) (m : List ℕ) (ks : List Cal
       let r = w.result in
       let p : Drives c m (take (length d) d) (space cu u) r w.lent w.room' = rw (take-length d) w.drives in
       let any = go (space cu u) r w.lent w.room' (some_space cu u) w.drives in
-      let i = driven-within w.drives in
+      let i = driven_within w.drives in
       let ins = length-take-le r.taken d i.0 in
       let outs = length-take-le r.given w.room' (omega (arith, i.1, i.2)) in (
         client_bytes (take r.taken d) (take r.given w.room'),
@@ -144,7 +144,7 @@ module _ {t : List ℕ} {cu cd : ℕ} (c : Client) (m : List ℕ) (ks : List Cal
       let r = w.result in
       let p : Serves s t img (take (length u) u) (space cd d) r w.image w.room' = rw (take-length u) w.serves in
       let any = go (space cd d) r w.image w.room' (some_space cd d) w.serves in
-      let i = served-within w.serves in
+      let i = served_within w.serves in
       let ins = length-take-le r.taken u i.0 in
       let outs = length-take-le r.given w.room' (omega (arith, i.1, i.2)) in (
         server_bytes (take r.taken u) (take r.given w.room'),

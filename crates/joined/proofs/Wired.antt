@@ -15,11 +15,11 @@ use borrow.Rule.Slice.PartMut.{put_mid, Post-is}
 use Rattle.server.specs.Contract.{Serves}
 use Rattle.server.specs.declared.state.Server.{Server}
 use Rattle.server.specs.declared.Stepped as served
-use Rattle.server.proofs.Result.{within as served-within, same_result as same-served}
+use Rattle.server.proofs.Result.{within as served_within, same_result as same_served}
 use Rattle.client.specs.Contract.{Drives}
 use Rattle.client.specs.declared.state.Client.{Client}
 use Rattle.client.specs.declared.Stepped as driven
-use Rattle.client.proofs.Result.{within as driven-within, same_result as same-driven}
+use Rattle.client.proofs.Result.{within as driven_within, same_result as same_driven}
 use Rattle.joined.specs.Code.{client_step, server_step}
 use Rattle.joined.specs.Wired.{taken_off, put_on, ClientMoves, ServerMoves}
 use Rattle.joined.specs.declared.ClientMoved.{ClientMoved}
@@ -89,7 +89,7 @@ module _ {c : Client} {m up : List ℕ} {ups : ℕ} {down : List ℕ} {downs pie
       (taken_off down there r.taken)
   client_moved =
       let d : Drives c m (take piece (take downs down)) (take room (drop ups up)) r m' ys = rw (i, piece_is down downs t piece, room_is up ups f room e) at p in
-      let w = driven-within d in
+      let w = driven_within d in
       let given = on_wire up ups f room r.given ys (omega (arith, w.1, w.2)) in
       let fits : length (take ups up) + length (take room (drop ups up)) ≤ length up =
       omega (arith, length-take ups up, length-take room (drop ups up), length-drop ups up) in
@@ -110,7 +110,7 @@ module _ {s : Server} {table img up : List ℕ} {ups : ℕ} {down : List ℕ} {d
       (taken_off up there r.taken) (put_mid from (to - from) down ys)
   server_moved =
       let d : Serves s table img (take piece (take ups up)) (take room (drop downs down)) r img' ys = rw (i, piece_is up ups t piece, room_is down downs f room e) at p in
-      let w = served-within d in
+      let w = served_within d in
       let given = on_wire down downs f room r.given ys (omega (arith, w.1, w.2)) in
       let fits : length (take downs down) + length (take room (drop downs down)) ≤ length down =
       omega (arith, length-take downs down, length-take room (drop downs down), length-drop downs down) in
@@ -129,7 +129,7 @@ pub same_client_move : {c : Client} {m up : List ℕ} {ups : ℕ} {down : List �
     → ClientMoves c m up ups down downs piece room r m' up' down' → ClientMoves c m up ups down downs piece room q m'' up'' down''
     → (r ≡ q) × (m' ≡ m'') × (up' ≡ up'') × (down' ≡ down'')
 same_client_move {r = r} {q = q} x y =
-    let s = same-driven x.drives y.drives in
+    let s = same_driven x.drives y.drives in
     let whole : ◌≡◌ {A = ClientMoved} (record { step = r.step; ups = r.ups; downs = r.downs }) (record { step = q.step; ups = q.ups; downs = q.downs }) =
     rw (x.up_count, x.down_count, s.0, ← y.up_count, ← y.down_count) in
     (whole, s.1, rw (x.up_bytes, s.2, ← y.up_bytes), rw (x.down_bytes, s.0, ← y.down_bytes))
@@ -138,7 +138,7 @@ pub same_server_move : {s : Server} {t img up : List ℕ} {ups : ℕ} {down : Li
     → ServerMoves s t img up ups down downs piece room r img' up' down' → ServerMoves s t img up ups down downs piece room q img'' up'' down''
     → (r ≡ q) × (img' ≡ img'') × (up' ≡ up'') × (down' ≡ down'')
 same_server_move {r = r} {q = q} x y =
-    let s = same-served x.serves y.serves in
+    let s = same_served x.serves y.serves in
     let whole : ◌≡◌ {A = ServerMoved} (record { step = r.step; ups = r.ups; downs = r.downs }) (record { step = q.step; ups = q.ups; downs = q.downs }) =
     rw (x.up_count, x.down_count, s.0, ← y.up_count, ← y.down_count) in
     (whole, s.1, rw (x.up_bytes, s.0, ← y.up_bytes), rw (x.down_bytes, s.2, ← y.down_bytes))

@@ -140,11 +140,11 @@ begin name ks img = joint fresh name ks [] (code (Shaking (Greeting 18))) img []
 abbrev pub export : List ℕ → ℕ → Record
 export t k = get_or (records t) k no_record
 
--- "The export's window is a part of the lent image"; bit 0 of the flags is read_only; "Position starts at 0"
+-- "The export's window is a part of the lent image"; bit 0 of the flags is read-only; "Position starts at 0"
 abbrev pub disk : Record → List ℕ → Disk
 disk r img = record { bytes = take r.size (drop r.start img); read_only = eqb (r.flags % 2) 1; position = 0 }
 
--- the size, and the fields: read_only, resizeable, rotational, send_trim, and send_flush where it is not read_only
+-- the size, and the fields: read-only, resizeable, rotational, send_trim, and send_flush where it is not read-only
 abbrev pub opening : Record → List ℕ → Result
 opening r name =
     succeeds (r.size ∷ r.flags % 2 ∷ r.flags / 2 % 2 ∷ r.flags / 4 % 2 ∷ r.flags / 8 % 2 ∷ (1 - r.flags % 2) ∷ []) name

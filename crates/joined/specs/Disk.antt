@@ -1,4 +1,4 @@
--- The plain disk (01): "the window's bytes, read_only flag and position", with calls made one after the other. Nothing here knows of machines or wires.
+-- The plain disk (01): "the window's bytes, read-only flag and position", with calls made one after the other. Nothing here knows of machines or wires.
 --   Disk, Call, From          the disk; the calls that are made on it; where a seek counts from
 --   succeeds, fails, refused  a result with values, with an error of the device, with a number that refuses
 --   transfer d k              how many bytes a read, a write or a trim of k bytes moves; none where the position is past the size

@@ -4,7 +4,7 @@
 --   question d k, answer d k   up and down, for one call on the disk d
 --   questions, answers         for a list of calls
 --   said_up, said_down           for the handshake and a list of calls
--- That they are as many as 01's formula says is `said-up` and `said-down` of proofs/Formula.antt.
+-- That they are as many as 01's formula says is `length_up` and `length_down` of proofs/Conversation.antt.
 use Rattle.std.specs.Prelude.{ℕ, zero, suc, true, List, [], ◌∷◌, ◌++◌, length, take}
 use Rattle.std.proofs.Math.Option.{Option, none, some}
 use Rattle.machine.specs.Choice.{pick}

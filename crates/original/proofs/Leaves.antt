@@ -1,7 +1,7 @@
 -- Document 000's constants and leaf functions are the port's, for any numbers: of one that is wider than its field, both write the low bytes.
---   same-strings, same-magics, same-options, same-replies, same-handshake-flags, same-export-flags, same-types   the constants
+--   same_strings, same_magics, same_options, same_replies, same_handshake_flags, same_export_flags, same_types   the constants
 --   has_bit                    `flags & k != 0`, where k is one binary digit
---   same_flags, same_readonly  the flags that answer EXPORT_NAME; that an export is read_only
+--   same_flags, same_readonly  the flags that answer EXPORT_NAME; that an export is read-only
 --   same_sum, same_clamp       `checked_add_i64`; `clamp_to_u32`
 --   same_zeros                 a comparison with zeros
 --   same_oldstyle, same_greeting, same_option_reply, same_export_reply, same_reply, same_export_name, same_request   what is written
@@ -29,48 +29,48 @@ use Rattle.original.specs.Consts as consts
 use Rattle.original.specs.Leaves.{has, table_fields, export_flags, take_away, checked_add_i64, clamp_to_u32, oldstyle_header, greeting, reply, export_reply, replyt, export_name, sendrequest}
 
 -- ---- the constants
-pub same-strings :
+pub same_strings :
     consts.NBDMAGIC ∷ consts.IHAVEOPT ∷ consts.OLDSTYLE ∷ consts.rustnbd ∷ []
     ≡ port.NBDMAGIC ∷ port.IHAVEOPT ∷ port.OLDSTYLE ∷ (be 4 7 ++ port.rustnbd) ∷ []
 unfolding be
-same-strings = refl
+same_strings = refl
 
-pub same-magics :
+pub same_magics :
     be 8 consts.NBD_OPT_MAGIC ∷ be 8 consts.NBD_OPT_REPLY_MAGIC ∷ be 4 consts.NBD_REQUEST_MAGIC ∷ be 4 consts.NBD_REPLY_MAGIC ∷ []
     ≡ port.IHAVEOPT ∷ be 8 port.NBD_OPT_REPLY_MAGIC ∷ be 4 port.NBD_REQUEST_MAGIC ∷ be 4 port.NBD_REPLY_MAGIC ∷ []
 unfolding be
-same-magics = refl
+same_magics = refl
 
-pub same-options :
+pub same_options :
     consts.NBD_OPT_EXPORT_NAME ∷ consts.NBD_OPT_ABORT ∷ consts.NBD_OPT_LIST ∷ consts.NBD_OPT_STARTTLS
     ∷ consts.NBD_OPT_INFO ∷ consts.NBD_OPT_GO ∷ consts.NBD_OPT_STRUCTURED_REPLY ∷ consts.NBD_OPT_EXTENDED_HEADERS ∷ []
     ≡ port.NBD_OPT_EXPORT_NAME ∷ port.NBD_OPT_ABORT ∷ port.NBD_OPT_LIST ∷ port.NBD_OPT_STARTTLS
     ∷ port.NBD_OPT_INFO ∷ port.NBD_OPT_GO ∷ port.NBD_OPT_STRUCTURED_REPLY ∷ port.NBD_OPT_EXTENDED_HEADERS ∷ []
-same-options = refl
+same_options = refl
 
-pub same-replies :
+pub same_replies :
     consts.NBD_REP_ACK ∷ consts.NBD_REP_SERVER ∷ consts.NBD_REP_ERR_UNSUP ∷ []
     ≡ port.NBD_REP_ACK ∷ port.NBD_REP_SERVER ∷ port.NBD_REP_ERR_UNSUP ∷ []
-same-replies = refl
+same_replies = refl
 
-pub same-handshake-flags :
+pub same_handshake_flags :
     consts.NBD_FLAG_FIXED_NEWSTYLE ∷ consts.NBD_FLAG_NO_ZEROES ∷ consts.NBD_FLAG_C_FIXED_NEWSTYLE ∷ consts.NBD_FLAG_C_NO_ZEROES ∷ []
     ≡ port.NBD_FLAG_FIXED_NEWSTYLE ∷ port.NBD_FLAG_NO_ZEROES ∷ port.NBD_FLAG_C_FIXED_NEWSTYLE ∷ port.NBD_FLAG_C_NO_ZEROES ∷ []
-same-handshake-flags = refl
+same_handshake_flags = refl
 
-pub same-export-flags :
+pub same_export_flags :
     consts.NBD_FLAG_HAS_FLAGS ∷ consts.NBD_FLAG_READ_ONLY ∷ consts.NBD_FLAG_SEND_FLUSH
     ∷ consts.NBD_FLAG_ROTATIONAL ∷ consts.NBD_FLAG_SEND_TRIM ∷ consts.NBD_FLAG_SEND_RESIZE ∷ []
     ≡ port.NBD_FLAG_HAS_FLAGS ∷ port.NBD_FLAG_READ_ONLY ∷ port.NBD_FLAG_SEND_FLUSH
     ∷ port.NBD_FLAG_ROTATIONAL ∷ port.NBD_FLAG_SEND_TRIM ∷ port.NBD_FLAG_SEND_RESIZE ∷ []
-same-export-flags = refl
+same_export_flags = refl
 
-pub same-types :
+pub same_types :
     consts.NBD_CMD_READ ∷ consts.NBD_CMD_WRITE ∷ consts.NBD_CMD_DISC ∷ consts.NBD_CMD_FLUSH
     ∷ consts.NBD_CMD_TRIM ∷ consts.NBD_CMD_WRITE_ZEROES ∷ consts.NBD_CMD_RESIZE ∷ []
     ≡ port.NBD_CMD_READ ∷ port.NBD_CMD_WRITE ∷ port.NBD_CMD_DISC ∷ port.NBD_CMD_FLUSH
     ∷ port.NBD_CMD_TRIM ∷ port.NBD_CMD_WRITE_ZEROES ∷ port.NBD_CMD_RESIZE ∷ []
-same-types = refl
+same_types = refl
 
 -- ---- flags
 pub has_bit : (flags k : ℕ) → has flags (2 ^ (1 + k) - 2 ^ k) ≡ bit k flags

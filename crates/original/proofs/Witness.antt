@@ -1,5 +1,5 @@
 -- The oracle domain is no smaller than it must be: each exclusion has a session that falls under it alone, over which the machine and document 000 differ.
---   all-differ    the server's four
+--   all_differ    the server's four
 --   after_fault, while_owed, long_name_lem   the client's three
 --   as_measured   what the crate was measured to do outside the domain, the definition says
 use Prim.Native.Nat.{ℕ}
@@ -41,13 +41,13 @@ module _ (w : Witness) (finishes : Finished (turn (table w) (ran w).stands) (ran
   by_end : (session (table w) image (input w)).outcome ≡ sudden_eof → Differs w
   by_end h = record { finishes = finishes; not_same = λ s. let z : ◌≡◌ {A = ℕ} 0 1 = cc s.same_end in omega arith }
 
-pub all-differ :
+pub all_differ :
     ((tests past_read ≡ true ∷ false ∷ false ∷ false ∷ []) × Differs past_read)
     × ((tests past_write ≡ false ∷ true ∷ false ∷ false ∷ []) × Differs past_write)
     × ((tests read_only_write ≡ false ∷ false ∷ true ∷ false ∷ []) × Differs read_only_write)
     × ((tests cut_write ≡ false ∷ false ∷ false ∷ true ∷ []) × Differs cut_write)
 unfolding be number same_bytes wire.greeting wire.export_reply wire.simple_reply next lead record_bytes front sized records_in records wire_flags started owed judge_flags named payload judge_option requested has export_flags octets greeting export_reply replyt turns write_all option options handshake command one_request transmission
-all-differ = (
+all_differ = (
   (refl, by_sent past_read (record { none_left = λ w. refl; none_owed = refl }) refl),
   (refl, by_sent past_write (record { none_left = λ w. refl; none_owed = refl }) refl),
   (refl, by_sent read_only_write (record { none_left = λ w. refl; none_owed = refl }) refl),

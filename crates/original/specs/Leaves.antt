@@ -34,7 +34,7 @@ pub record Fields : Type 0 where
   pub rotational : Bool
   pub send_trim : Bool
 
--- the callback's: "flags (1: bit 0 read_only, 1 resizeable, 2 rotational, 3 send_trim)"
+-- the callback's: "flags (1: bit 0 read-only, 1 resizeable, 2 rotational, 3 send_trim)"
 abbrev pub table_fields : ℕ → Fields
 table_fields flags = record { readonly = has flags 1; resizeable = has flags 2; rotational = has flags 4; send_trim = has flags 8 }
 

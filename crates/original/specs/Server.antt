@@ -39,7 +39,7 @@ abbrev pub session : List ℕ → List ℕ → List ℕ → Served
 session t m input = serve m (handshake t input)
 
 -- ---- the oracle domain: "all requests except a READ of length above 0 that passes the window's end, a WRITE of length above 0 that passes it, a WRITE
--- on a read_only export, and a WRITE cut inside its payload"
+-- on a read-only export, and a WRITE cut inside its payload"
 abbrev pub passes : Export → ℕ → ℕ → Bool
 passes e offset len = both (ltb 0 len) (ltb e.size (offset + len))
 

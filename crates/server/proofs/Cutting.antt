@@ -12,7 +12,7 @@ use lib.ListN.{length, drop}
 use Rattle.machine.specs.Machine.{On, on}
 use Rattle.machine.specs.Run.{Ran}
 use Rattle.machine.specs.Stream.{Session, over, piece, Finished}
-use Rattle.machine.proofs.Cutting.{cutting as machine-cutting, step_finished}
+use Rattle.machine.proofs.Cutting.{cutting as machine_cutting, step_finished}
 use Rattle.server.specs.Session.{State, turn}
 use Rattle.server.specs.View.{view, code}
 use Rattle.server.specs.Ranges.{refusal}
@@ -27,7 +27,7 @@ module _ (t : List ℕ) where
       → Session (turn t) (on x m) stream ps (on z m'') rest' → Finished (turn t (on z m'')) rest'
       → (os ≡ ps) × (y ≡ z) × (m' ≡ m'') × (rest ≡ rest')
   session_cutting {y = y} {z} {m' = m'} {m''} {os = os} {ps} {rest} {rest'} p f q g =
-      let e = machine-cutting p f q g in
+      let e = machine_cutting p f q g in
       let s : on y m' ≡ on z m'' = ap (λ (r : Ran (On State)). r.stands) e in
       (ap (λ (r : Ran (On State)). r.given) e, cc, cc, ap (λ (r : Ran (On State)). r.rest) e)
 

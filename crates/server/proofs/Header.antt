@@ -1,8 +1,8 @@
 -- Headers: bytes gathered in the state up to the next place where they are judged.
 --   gathered_leaf    one piece of a header is moves of the machine
---   flags-.., option-.., request-..    the first k bytes of each, of the 28 in the array
---   each-.., quiet-..   each gathers bytes, and judges none before the next place
---   until-..         the next place is past the bytes that are there
+--   flags_.., option_.., request_..    the first k bytes of each, of the 28 in the array
+--   each_.., quiet_..   each gathers bytes, and judges none before the next place
+--   until_..         the next place is past the bytes that are there
 use Prim.Native.Nat.{ℕ, zero, suc, ◌+◌, ◌-◌, ◌≤◌, ◌<◌}
 use mathlib.Core.Path.{◌≡◌, refl, sym, ap, ◌∙◌}
 use mathlib.Core.Bool.{Bool, true, false}

@@ -1,10 +1,10 @@
 -- The handshake's pieces in one piece each, and exactly the reply that the protocol has for each (01, "Server on the wire"). Each law says: from this place,
 -- these bytes are taken and those are given, and there the session stands. The image is never touched.
 --   greeting_first    the greeting is given before anything else is given or taken
---   whole-flags-..    the client's flags
+--   whole_flags_..    the client's flags
 --   option_judged     an option's 16 bytes are taken, and its payload begins
 --   whole_handshake   the whole of it, as our client makes it
---   whole-..          each option, from the place before an option; z says whether the client's flags were 1 and the 124 zeros are sent
+--   whole_..          each option, from the place before an option; z says whether the client's flags were 1 and the 124 zeros are sent
 use Prim.Native.Nat.{ℕ, ◌+◌, ◌^◌, ◌≤◌, ◌<◌}
 use mathlib.Core.Path.{◌≡◌, refl, sym}
 use mathlib.Core.Bool.{Bool, true, false}

@@ -1,7 +1,7 @@
 -- A whole request in one piece, and exactly the reply that the protocol has for it (01, "Server on the wire"). Each law says: from the place before a
 -- request, the bytes of the request and its payload are taken, these bytes are given, and there the session stands, with this image.
 --   request_judged   a request's 28 bytes are taken, and what it is owed begins
---   whole-..         each request
+--   whole_..         each request
 use Prim.Native.Nat.{ℕ, ◌+◌, ◌^◌, ◌≤◌, ◌<◌}
 use mathlib.Core.Path.{◌≡◌, refl}
 use mathlib.Core.Bool.{true, false}
@@ -88,7 +88,7 @@ module _ (t m : List ℕ) (e : Export) where
           and_gives t (owed_begins flags (fields (omega arith) len_fits) Data (rw (some_length, le-ltb e.size (offset + len) h)))
           (then (reply_given t m e 0 handle offset len) (data_given t m e offset len (rw (window_length e m inside) h)))
 
-    -- ---- WRITE: "on a read_only export error 1; else length 0 gives 0; else past the window error 28. The whole payload is taken before any reply."
+    -- ---- WRITE: "on a read-only export error 1; else length 0 gives 0; else past the window error 28. The whole payload is taken before any reply."
     pub whole_write_nothing : read_only e.flags ≡ false → Moves (turn t) (on ready m) (request flags NBD_CMD_WRITE handle offset 0) (simple_reply 0 handle) (on ready m)
     unfolding owed
     whole_write_nothing w = and_gives t (owed_begins flags (fields (omega arith) (omega arith)) (Reply 0) (rw w)) (reply_given t m e 0 handle 0 0)

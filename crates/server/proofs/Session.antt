@@ -1,7 +1,7 @@
 -- The session's runs of bytes, by machine's laws.
 --   each_owed, owed_leaf   bytes of a reply are moves of the machine
---   each-..       the runs of bytes that are dropped and sent
---   length-..     the replies' lengths
+--   each_..       the runs of bytes that are dropped and sent
+--   length_..     the replies' lengths
 use Prim.Native.Nat.{ℕ, suc, ◌-◌, ◌≤◌, ◌<◌}
 use mathlib.Core.Path.{◌≡◌, refl, ap, ◌∙◌}
 use mathlib.Core.Bool.{Bool, true, false}

@@ -12,7 +12,7 @@ use lib.Seq.{sets, sets-eq, paste, length-take-le, take-take, drop-drop, drop-ap
 use borrow.Rule.Slice.PartMut.{put_mid}
 use Rattle.machine.specs.Machine.{on, Moves, still, by_take}
 use Rattle.machine.specs.Pieces.{Absorbs, Emits}
-use Rattle.machine.proofs.Leaves.{send_leaf as sends-leaf}
+use Rattle.machine.proofs.Leaves.{send_leaf as sends_leaf}
 use Rattle.wire.specs.declared.table.Export.{Export}
 use Rattle.server.specs.Session.{State, Storing, Sending, Serving, storing, sending, window, turn}
 use Rattle.server.specs.Inner.{Stored, Sent}
@@ -69,5 +69,5 @@ module _ (t : List ℕ) (e : Export) (off left : ℕ) (m : List ℕ) (inside : e
   pub send_leaf : {room room' : List ℕ} {given : ℕ} {x : State} → Sent e off left (window e m) room given x room'
       → Emits (turn t) (on (Serving e (Sending off left)) m) room given (on x m) room'
   send_leaf g =
-      sends-leaf (sending e) (window e m) (off + left) (each_sent t e m (off + left)) (sending_more e off left (λ z. omega arith)) g.least some refl
+      sends_leaf (sending e) (window e m) (off + left) (each_sent t e m (off + left)) (sending_more e off left (λ z. omega arith)) g.least some refl
       (rw (window_length e m inside) fits) g.stands g.written

@@ -1,7 +1,7 @@
 -- A WRITE's payload.
 --   payload_dropped, payload_stored   the bytes of a payload, refused or accepted, then the reply, then the next request
 --   payload_swallowed   a refused payload is taken whole and changes nothing: all of its bytes, then the reply with its error
---   reply-waits-..      "The whole payload is taken before any reply"
+--   reply_waits_..      "The whole payload is taken before any reply"
 --   giving_writes_nothing   bytes given leave the image as it is
 --   cut_inside_write    "If the connection is cut inside a WRITE, the image holds exactly the payload bytes that were taken"
 use Prim.Native.Nat.{ℕ, suc, ◌+◌, ◌-◌, ◌≤◌, ◌<◌}

@@ -6,7 +6,7 @@
 --   behind e error off len   whether these may be a reply's error and the data behind it: none, or a part of the window behind error 0
 --   ranged x        whether a state is within its ranges
 --   tidy s          whether the bytes of `head` that the phase does not use are 0
---   inRange s       both: else the server is refused as 27
+--   in_range s      both: else the server is refused as 27
 --   window_fault n e   26 where the export's window passes an image of n bytes, else 0
 --   window_fault_shaking n p   the same for the export that a handshake has chosen
 --   loan_fault t n x   the part of the refusal that speaks of what is lent

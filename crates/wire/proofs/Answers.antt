@@ -1,7 +1,7 @@
 -- Two answers of a public function that stand for the same value are the same answer.
 --   same_chosen    of `lowest`
 --   same_sum       of `checked_add_i64`
---   same-checked   of `check`
+--   same_checked   of `check`
 -- Of `started` and `narrowed` it is `one_number` of Words.antt; the other public functions answer an equation.
 use Prim.Native.Nat.{ℕ}
 use mathlib.Core.Path.{◌≡◌, refl, sym, ap, ◌∙◌}
@@ -46,5 +46,5 @@ answered Window = refl
 answered Flags = refl
 answered Name = refl
 
-pub same-checked : (a b : Checked) → fault_of a ≡ fault_of b → a ≡ b
-same-checked a b e = sym (answered a) ∙ ap answer_of e ∙ answered b
+pub same_checked : (a b : Checked) → fault_of a ≡ fault_of b → a ≡ b
+same_checked a b e = sym (answered a) ∙ ap answer_of e ∙ answered b

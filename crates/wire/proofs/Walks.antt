@@ -5,7 +5,7 @@
 --   records_turn               the records from a place on, where one stands
 --   records_out                after the last turn
 --   records_few                there are at most 32
---   get_d_first, get_d_later     an element of a list with one in front
+--   get_or_first, get_or_later     an element of a list with one in front
 use Prim.Native.Nat.{ℕ, zero, suc, ◌-◌, ◌≤◌, ◌<◌}
 use mathlib.Core.Path.{◌≡◌, refl}
 use mathlib.Core.List.{List, [], ◌∷◌}
@@ -76,10 +76,10 @@ pub records_few : (t : List ℕ) → length (records t) ≤ 32
 unfolding records
 records_few t = records_in_few 32 (drop 1 t)
 
-pub get_d_first : (r : Record) (rs : List Record) (k : ℕ) (d : Record) → k ≡ 0 → get_or (r ∷ rs) k d ≡ r
-get_d_first r rs zero d h = refl
-get_d_first r rs (suc k) d h = absurd (omega arith)
+pub get_or_first : (r : Record) (rs : List Record) (k : ℕ) (d : Record) → k ≡ 0 → get_or (r ∷ rs) k d ≡ r
+get_or_first r rs zero d h = refl
+get_or_first r rs (suc k) d h = absurd (omega arith)
 
-pub get_d_later : (r : Record) (rs : List Record) (k : ℕ) (d : Record) → (k ≡ 0 → ⊥) → get_or (r ∷ rs) k d ≡ get_or rs (k - 1) d
-get_d_later r rs zero d h = absurd (h refl)
-get_d_later r rs (suc k) d h = let q : suc k - 1 ≡ k = omega arith in rw q
+pub get_or_later : (r : Record) (rs : List Record) (k : ℕ) (d : Record) → (k ≡ 0 → ⊥) → get_or (r ∷ rs) k d ≡ get_or rs (k - 1) d
+get_or_later r rs zero d h = absurd (h refl)
+get_or_later r rs (suc k) d h = let q : suc k - 1 ≡ k = omega arith in rw q

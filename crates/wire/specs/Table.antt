@@ -14,7 +14,7 @@
 --   record_bytes, records_bytes, table_bytes   the bytes of a record, of records and of a table
 --   SoundRecord n r, Each n rs   01's rules on a record, and on each of a list
 --   Sound n rs      01's rules on the records, for an image of n bytes
---   bit k f, read_only f   whether bit k of the table flags f is set; whether they say read_only
+--   bit k f, read_only f   whether bit k of the table flags f is set; whether they say read-only
 --   wire_flags f     the flags that the server sends for an export with the table flags f
 use Rattle.std.specs.Prelude.{ℕ, zero, suc, ◌+◌, ◌/◌, ◌%◌, ◌^◌, ◌≤◌, ◌<◌, ◌≡◌, Bool, true, List, [], ◌∷◌, ◌++◌, eqb, ltb, leb, length, get_or, take, drop}
 use Rattle.machine.specs.Choice.{pick, both, between}
@@ -131,14 +131,14 @@ pub record Sound (n : ℕ) (rs : List Record) : Type 0 where
   pub at_most : length rs ≤ 32
   pub each : Each n rs
 
--- ---- "flags (1: bit 0 read_only, 1 resizeable, 2 rotational, 3 send_trim)"
+-- ---- "flags (1: bit 0 read-only, 1 resizeable, 2 rotational, 3 send_trim)"
 abbrev pub bit : ℕ → ℕ → Bool
 bit k f = eqb (f / 2 ^ k % 2) 1
 
 abbrev pub read_only : ℕ → Bool
 read_only f = bit 0 f
 
--- "Flags: 1; plus 2 if read_only, else 4; plus 512 resizeable, 16 rotational, 32 send_trim."
+-- "Flags: 1; plus 2 if read-only, else 4; plus 512 resizeable, 16 rotational, 32 send_trim."
 unfoldable pub wire_flags : ℕ → ℕ
 wire_flags f =
     NBD_FLAG_HAS_FLAGS

@@ -5,7 +5,7 @@ use lib.ListN.{drop}
 use Rattle.wire.specs.Table.{no_record, records_in, records, export_of}
 use Rattle.wire.specs.Walk.{record_at}
 use Rattle.wire.proofs.Places.{found, found_none}
-use Rattle.wire.proofs.Walks.{records_out, records_turn, get_d_first, get_d_later}
+use Rattle.wire.proofs.Walks.{records_out, records_turn, get_or_first, get_or_later}
 use Rattle.wire.proofs.table.export_at.Goals as goal
 
 pub loop-left-init : goal.loop-left-init
@@ -28,7 +28,7 @@ returns-then-skip-eq0 c =
     let t = c.args.table.now in
     let turn = records_turn l.left (drop l.at t) (found c.front_at-f.ensures _ c.in-Record.is) (omega arith) in
     let rest = records_in (l.left - 1) (drop c.in-Record.e.next t) in
-    ap export_of (rw (turn, get_d_first (record_at t c.in-Record.e) rest l.skip no_record c.if-skip-eq0.true) at l.invariant)
+    ap export_of (rw (turn, get_or_first (record_at t c.in-Record.e) rest l.skip no_record c.if-skip-eq0.true) at l.invariant)
 
 pub loop-left-preserved : goal.loop-left-preserved
 loop-left-preserved c =
@@ -36,7 +36,7 @@ loop-left-preserved c =
     let t = c.args.table.now in
     let turn = records_turn l.left (drop l.at t) (found c.front_at-f.ensures _ c.in-Record.is) (omega arith) in
     let rest = records_in (l.left - 1) (drop c.in-Record.e.next t) in
-    rw (turn, get_d_later (record_at t c.in-Record.e) rest l.skip no_record c.if-skip-eq0.false) at l.invariant
+    rw (turn, get_or_later (record_at t c.in-Record.e) rest l.skip no_record c.if-skip-eq0.false) at l.invariant
 
 pub returns : goal.returns
 returns c =
