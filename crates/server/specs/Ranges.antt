@@ -11,16 +11,20 @@
 --   window_fault_shaking n p   the same for the export that a handshake has chosen
 --   loan_fault t n x   the part of the refusal that speaks of what is lent
 --   refusal t n s   why a step is refused, with the table t and an image of n bytes: 27, then 20 to 25 in the handshake, then 26; 0 where it is not
-use Rattle.std.specs.Prelude.{ℕ, ◌+◌, Bool, not, List, eqb, ltb, leb, length, drop}
+--   number why      01's number of a refusal
+--   refusal_of      why a step is refused, by the code's answer
+use Rattle.std.specs.Prelude.{ℕ, ◌+◌, Bool, not, List, eqb, ltb, leb, length, drop, ⊤, Result, Ok, Err}
 use Rattle.machine.specs.Choice.{pick, both, either, between}
 use Rattle.machine.specs.Parts.{blank}
 use Rattle.wire.specs.Constants.{NBD_OPT_EXPORT_NAME, NBD_OPT_INFO, NBD_OPT_GO, NBD_OPT_STRUCTURED_REPLY, NBD_OPT_EXTENDED_HEADERS, NBD_EPERM, NBD_EINVAL, NBD_ENOSPC, NBD_ENOSYS}
-use Rattle.wire.specs.Table.{fault, first_fault, read_only}
+use Rattle.wire.specs.Table.{fault, fault_of, first_fault, read_only}
 use Rattle.wire.specs.declared.table.Export.{Export}
 use Rattle.server.specs.Session.{Handshake, Greeting, ClientFlags, OptionHead, Naming, Passing, Listing, Declining, Aborting, Exporting, reply_length}
 use Rattle.server.specs.Session.{Transmission, Header, Storing, Dropping, Replying, Sending, State, Shaking, Serving, Over}
 use Rattle.server.specs.View.{view, used}
 use Rattle.server.specs.declared.state.Server.{Server}
+use Rattle.server.specs.declared.refusal.Refusal.{Refusal}
+use Rattle.server.specs.declared.refusal.Refusal.TheVariants.{Table, Window, OutOfRange, OutputOwed}
 
 -- ---- the ranges
 abbrev pub unsupported : ℕ → Bool
@@ -94,3 +98,14 @@ loan_fault t n (Over k) = 0
 
 abbrev pub refusal : List ℕ → ℕ → Server → ℕ
 refusal t n s = pick (in_range s) (loan_fault t n (view s)) 27
+
+-- ---- 01's numbers
+abbrev pub number : Refusal → ℕ
+number (Table fault) = fault_of fault
+number Window = 26
+number OutOfRange = 27
+number OutputOwed = 28
+
+abbrev pub refusal_of : Result ⊤ Refusal → ℕ
+refusal_of (Ok t) = 0
+refusal_of (Err why) = number why

@@ -6,6 +6,7 @@ mod idle;
 pub mod oldstyle;
 mod options;
 mod ranges;
+mod refusal;
 mod request;
 pub mod state;
 mod step;
@@ -16,6 +17,7 @@ ghost use Rattle.server.specs.Session.{Greeting, Shaking};
 ghost use Rattle.server.specs.View.{code};
 ghost use Rattle.server.specs.Contract.{cut_off, Serves, Closes};
 
+use refusal::Refusal;
 use state::{Handshake, Outcome, Phase, Server};
 
 #[derive(Clone, Copy)]
@@ -39,7 +41,7 @@ fn cut_off(s: Server, owed: bool) -> InputEnded
     if owed {
         InputEnded {
             state: s,
-            outcome: Outcome::Refused(28),
+            outcome: Outcome::Refused(Refusal::OutputOwed.number()),
         }
     } else {
         InputEnded {
@@ -68,13 +70,12 @@ impl Server {
         ensures { Serves self table.now image.old input.now room.old
             result image.new room.new }
     {
-        let why = ranges::refusal(self, table, image.len());
-        if why != 0 {
+        if let Err(why) = ranges::refusal(self, table, image.len()) {
             return Stepped {
                 state: self,
                 taken: 0,
                 given: 0,
-                outcome: Outcome::Refused(why),
+                outcome: Outcome::Refused(why.number()),
             };
         }
         let r = step::advance(self, input, room, table, image);
@@ -95,7 +96,7 @@ impl Server {
         if !ranges::in_range(self) {
             return InputEnded {
                 state: self,
-                outcome: Outcome::Refused(27),
+                outcome: Outcome::Refused(Refusal::OutOfRange.number()),
             };
         }
         let p = self.phase;

@@ -1,8 +1,8 @@
 // What is refused: a state outside the ranges of docs/STATES.md, and a table or an image that will not do.
-ghost use Rattle.std.specs.Prelude.{◌≡◌, not, List, ℕ, eqb, ltb, leb};
-ghost use Rattle.machine.specs.Choice.{pick, both, either, between};
+ghost use Rattle.std.specs.Prelude.{◌≡◌, ◌<◌, not, List, ℕ, eqb, ltb, leb, OnErr};
+ghost use Rattle.machine.specs.Choice.{pick, both, between};
 ghost use Rattle.wire.specs.Constants.{NBD_OPT_EXPORT_NAME, NBD_EPERM, NBD_ENOSPC};
-ghost use Rattle.wire.specs.Table.{first_fault, read_only};
+ghost use Rattle.wire.specs.Table.{fault, read_only};
 ghost use Rattle.server.specs.Session.{reply_length};
 ghost use Rattle.server.specs.View.{view, handshake_of, transmission_of, used_shaking, used_serving, used};
 ghost use Rattle.server.specs.Ranges.{
@@ -18,13 +18,15 @@ ghost use Rattle.server.specs.Ranges.{
   window_fault_shaking,
   loan_fault,
   refusal,
+  refusal_of,
 };
 
+use crate::refusal::Refusal;
 use crate::request;
 use crate::state::{Handshake, Phase, Server, Transmission};
 use machine::parts;
-use machine::tests::{between, both, either, within};
-use wire::table::Export;
+use machine::tests::within;
+use wire::table::{Checked, Export};
 use wire::{consts, table};
 
 // ---- the phases
@@ -32,22 +34,12 @@ use wire::{consts, table};
 fn unsupported(option: u32) -> bool
     ensures { result ≡ unsupported option }
 {
-    let later = either(
-        option == consts::NBD_OPT_STRUCTURED_REPLY,
-        option == consts::NBD_OPT_EXTENDED_HEADERS,
-    );
-    either(
-        option == consts::NBD_OPT_INFO,
-        either(option == consts::NBD_OPT_GO, later),
-    )
-}
-
-fn passed(option: u32, len: usize, left: usize) -> bool
-    ensures { result ≡ both (not (eqb option NBD_OPT_EXPORT_NAME)) (both (between 1 len left) (leb len 100000)) }
-{
-    both(
-        option != consts::NBD_OPT_EXPORT_NAME,
-        both(between(1, len, left), len <= 100000),
+    matches!(
+        option,
+        consts::NBD_OPT_INFO
+            | consts::NBD_OPT_GO
+            | consts::NBD_OPT_STRUCTURED_REPLY
+            | consts::NBD_OPT_EXTENDED_HEADERS
     )
 }
 
@@ -58,56 +50,44 @@ pub fn reply_length(zeroes: bool) -> usize
     if zeroes { 134 } else { 10 }
 }
 
-fn reply_within(zeroes: bool, flags: u8, left: usize) -> bool
-    ensures { result ≡ both (ltb flags 16) (between 1 (reply_length zeroes) left) }
-{
-    both(flags < 16, between(1, reply_length(zeroes), left))
-}
-
 fn ranged_shaking(head: [u8; 28], p: Handshake) -> bool
     ensures { result ≡ ranged_shaking (handshake_of head p) }
 {
     match p {
-        Handshake::Greeting { left } => between(1, 18, left),
+        Handshake::Greeting { left } => (1..=18).contains(&left),
         Handshake::ClientFlags { have } => have < 4,
         Handshake::OptionHead { have, .. } => have < 16,
-        Handshake::Naming { at, left, .. } => both(0 < left, within(at, left, 100000)),
+        Handshake::Naming { at, left, .. } => 0 < left && within(at, left, 100000),
         Handshake::Passing {
             option,
             len,
             left,
             ..
-        } => passed(option, len, left),
-        Handshake::Listing { left, .. } => between(1, 51, left),
-        Handshake::Declining { option, left, .. } => both(
-            unsupported(option),
-            between(1, 20, left),
-        ),
-        Handshake::Aborting { left } => between(1, 20, left),
+        } => option != consts::NBD_OPT_EXPORT_NAME && (1..=len).contains(&left) && len <= 100000,
+        Handshake::Listing { left, .. } => (1..=51).contains(&left),
+        Handshake::Declining { option, left, .. } => unsupported(option)
+            && (1..=20).contains(&left),
+        Handshake::Aborting { left } => (1..=20).contains(&left),
         Handshake::Exporting {
             zeroes,
             export,
             left,
-        } => reply_within(zeroes, export.flags, left),
+        } => export.flags < 16 && (1..=reply_length(zeroes)).contains(&left),
     }
 }
 
 fn part(e: Export, off: usize, left: usize) -> bool
     ensures { result ≡ part e off left }
 {
-    both(0 < left, within(off, left, e.size as usize))
+    0 < left && within(off, left, e.size as usize)
 }
 
 fn replied(error: u32) -> bool
     ensures { result ≡ replied error }
 {
-    let past = either(error == consts::NBD_ENOSPC, error == consts::NBD_ENOSYS);
-    either(
-        error == 0,
-        either(
-            error == consts::NBD_EPERM,
-            either(error == consts::NBD_EINVAL, past),
-        ),
+    matches!(
+        error,
+        0 | consts::NBD_EPERM | consts::NBD_EINVAL | consts::NBD_ENOSPC | consts::NBD_ENOSYS
     )
 }
 
@@ -115,9 +95,9 @@ fn behind(e: Export, error: u32, off: usize, len: usize) -> bool
     ensures { result ≡ behind e error off len }
 {
     if len == 0 {
-        both(off == 0, replied(error))
+        off == 0 && replied(error)
     } else {
-        both(error == 0, within(off, len, e.size as usize))
+        error == 0 && within(off, len, e.size as usize)
     }
 }
 
@@ -137,15 +117,15 @@ fn ranged_serving(head: [u8; 28], e: Export, p: Transmission) -> bool
 {
     match p {
         Transmission::Header { have } => have < 28,
-        Transmission::Storing { off, left, .. } => both(!request::read_only(e), part(e, off, left)),
-        Transmission::Dropping { error, left, .. } => both(error == refused(e), 0 < left),
+        Transmission::Storing { off, left, .. } => !request::read_only(e) && part(e, off, left),
+        Transmission::Dropping { error, left, .. } => error == refused(e) && 0 < left,
         Transmission::Replying {
             error,
             left,
             off,
             len,
             ..
-        } => both(between(1, 16, left), behind(e, error, off, len)),
+        } => (1..=16).contains(&left) && behind(e, error, off, len),
         Transmission::Sending { off, left } => part(e, off, left),
     }
 }
@@ -153,11 +133,9 @@ fn ranged_serving(head: [u8; 28], e: Export, p: Transmission) -> bool
 fn ranged(s: Server) -> bool
     ensures { result ≡ ranged (view s) }
 {
-    let head = s.head;
-    let p = s.phase;
-    match p {
-        Phase::Shaking(h) => ranged_shaking(head, h),
-        Phase::Serving(e, t) => both(e.flags < 16, ranged_serving(head, e, t)),
+    match s.phase {
+        Phase::Shaking(h) => ranged_shaking(s.head, h),
+        Phase::Serving(e, t) => e.flags < 16 && ranged_serving(s.head, e, t),
         Phase::Over(n) => n <= 12,
     }
 }
@@ -168,15 +146,8 @@ fn used_shaking(p: Handshake) -> usize
     ensures { result ≡ used_shaking p }
 {
     match p {
-        Handshake::Greeting { .. } => 0,
-        Handshake::ClientFlags { have } => have,
-        Handshake::OptionHead { have, .. } => have,
-        Handshake::Naming { .. } => 0,
-        Handshake::Passing { .. } => 0,
-        Handshake::Listing { .. } => 0,
-        Handshake::Declining { .. } => 0,
-        Handshake::Aborting { .. } => 0,
-        Handshake::Exporting { .. } => 0,
+        Handshake::ClientFlags { have } | Handshake::OptionHead { have, .. } => have,
+        _ => 0,
     }
 }
 
@@ -185,10 +156,7 @@ fn used_serving(p: Transmission) -> usize
 {
     match p {
         Transmission::Header { have } => have,
-        Transmission::Storing { .. } => 0,
-        Transmission::Dropping { .. } => 0,
-        Transmission::Replying { .. } => 0,
-        Transmission::Sending { .. } => 0,
+        _ => 0,
     }
 }
 
@@ -207,65 +175,65 @@ pub fn used(p: Phase) -> usize
 pub fn in_range(s: Server) -> bool
     ensures { result ≡ in_range s }
 {
-    let head = s.head;
-    let p = s.phase;
-    let k = used(p);
-    both(parts::blank(&head, k), ranged(s))
+    parts::blank(&s.head, used(s.phase)) && ranged(s)
 }
 
 // ---- what a step refuses
 
-// Whether the export's window lies in an image of n bytes: 0, or 26.
-fn window_fault(e: Export, n: usize) -> u8
-    ensures { result ≡ window_fault n e }
+// Whether the export's window lies in an image of n bytes.
+fn window_fault(e: Export, n: usize) -> Result<(), Refusal>
+    ensures number { refusal_of result ≡ window_fault n e }
+    ensures refuses { OnErr result (0 < window_fault n e) }
 {
-    if table::window_fits(e, n) { 0 } else { 26 }
+    if table::window_fits(e, n) {
+        Ok(())
+    } else {
+        Err(Refusal::Window)
+    }
 }
 
-fn window_fault_shaking(p: Handshake, n: usize) -> u8
-    ensures { (h : List ℕ) → result ≡ window_fault_shaking n (handshake_of h p) }
+fn window_fault_shaking(p: Handshake, n: usize) -> Result<(), Refusal>
+    ensures number { (h : List ℕ) → refusal_of result ≡ window_fault_shaking n (handshake_of h p) }
+    ensures refuses { OnErr result ((h : List ℕ) → 0 < window_fault_shaking n (handshake_of h p)) }
 {
     match p {
         Handshake::Exporting { export, .. } => window_fault(export, n),
-        Handshake::Greeting { .. } => 0,
-        Handshake::ClientFlags { .. } => 0,
-        Handshake::OptionHead { .. } => 0,
-        Handshake::Naming { .. } => 0,
-        Handshake::Passing { .. } => 0,
-        Handshake::Listing { .. } => 0,
-        Handshake::Declining { .. } => 0,
-        Handshake::Aborting { .. } => 0,
+        _ => Ok(()),
     }
 }
 
-fn first_fault(a: u8, b: u8) -> u8
-    ensures { result ≡ first_fault a b }
+fn sound(table: &[u8], n: usize) -> Result<(), Refusal>
+    ensures number { refusal_of result ≡ fault n table.now }
+    ensures refuses { OnErr result (0 < fault n table.now) }
 {
-    if a == 0 { b } else { a }
+    match table::check(table, n) {
+        Checked::Sound => Ok(()),
+        c => Err(Refusal::Table(c)),
+    }
 }
 
-// What is wrong with what is lent: 20 to 25, then 26; 0 where nothing is.
-fn loan_fault(s: Server, table: &[u8], n: usize) -> u8
-    ensures { result ≡ loan_fault table.now n (view s) }
+// What is wrong with what is lent, if anything is.
+fn loan_fault(s: Server, table: &[u8], n: usize) -> Result<(), Refusal>
+    ensures number { refusal_of result ≡ loan_fault table.now n (view s) }
+    ensures refuses { OnErr result (0 < loan_fault table.now n (view s)) }
 {
-    let p = s.phase;
-    match p {
-        Phase::Shaking(h) => first_fault(
-            table::check(table, n).number(),
-            window_fault_shaking(h, n),
-        ),
+    match s.phase {
+        Phase::Shaking(h) => {
+            sound(table, n)?;
+            window_fault_shaking(h, n)
+        }
         Phase::Serving(e, _) => window_fault(e, n),
-        Phase::Over(_) => 0,
+        Phase::Over(_) => Ok(()),
     }
 }
 
-// Why a step is refused; 0 where it is not.
-pub fn refusal(s: Server, table: &[u8], n: usize) -> u8
-    ensures { result ≡ refusal table.now n s }
+// Why a step is refused, if it is.
+pub fn refusal(s: Server, table: &[u8], n: usize) -> Result<(), Refusal>
+    ensures number { refusal_of result ≡ refusal table.now n s }
+    ensures refuses { OnErr result (0 < refusal table.now n s) }
 {
-    if in_range(s) {
-        loan_fault(s, table, n)
-    } else {
-        27
+    if !in_range(s) {
+        return Err(Refusal::OutOfRange);
     }
+    loan_fault(s, table, n)
 }
