@@ -1,9 +1,9 @@
 -- The table's fault comes before the window's.
 use Prim.Native.Nat.{ℕ, zero, suc, ◌<◌}
-use mathlib.Core.Path.{◌≡◌, refl, sym, ◌∙◌}
+use mathlib.Core.Path.{◌≡◌, refl, ◌∙◌}
 use native.Mathlib.Omega.{arith}
 use borrow.Author.Rules.{rules}
-use Rattle.std.specs.Prelude.{Result, Ok, Err, IsErrOf, ⊤}
+use Rattle.std.specs.Prelude.{Result, IsErrOf, ⊤}
 use Rattle.wire.specs.Table.{first_fault}
 use Rattle.server.specs.Ranges.{number, refusal_of}
 use Rattle.server.specs.declared.refusal.Refusal.{Refusal}
