@@ -5,7 +5,7 @@
 --   resizing     whether the open call is a resize, whose line shows the client's size
 --   size_of       that size
 --   FitsCall     what is asked of the client has its input and its room in the buffers
-use Rattle.std.specs.Prelude.{ℕ, Bool, true, false}
+use Rattle.std.specs.Prelude.{ℕ, Bool, true, false, Option, Some, None}
 use Rattle.lines.specs.Buffers.{Room}
 use Rattle.lines.specs.declared.answer.Answer.{Answer}
 use Rattle.lines.specs.declared.answer.Answer.TheVariants.{On, Done, Fail, End, No}
@@ -13,12 +13,11 @@ use Rattle.client.specs.declared.state.Value.{Value}
 use Rattle.client.specs.declared.state.Value.TheVariants.{Opened, Bytes, Position, Nothing}
 use Rattle.client.specs.declared.state.Call.{Call}
 use Rattle.client.specs.declared.state.Call.TheVariants.{Read, Write, Flush, Trim, Resize}
+use Rattle.client.specs.declared.state.Device.{Device}
 use Rattle.client.specs.declared.state.Phase.{Phase}
 use Rattle.client.specs.declared.state.Phase.TheVariants.{Blank, Shaking, Ready, Calling, Closed, Over}
 use Rattle.client.specs.declared.state.Outcome.{Outcome}
 use Rattle.client.specs.declared.state.Outcome.TheVariants as outcome
-use Rattle.client.specs.declared.Info.{Info}
-use Rattle.client.specs.declared.Info.TheVariants.{Known, Unknown}
 use Rattle.calling.specs.declared.asked.Call as asked
 use Rattle.calling.specs.declared.asked.Call.TheVariants as ask
 
@@ -51,9 +50,9 @@ resizing (Calling d c p) = is_resize c
 resizing (Closed o d) = false
 resizing (Over n) = false
 
-abbrev pub size_of : Info → ℕ
-size_of (Known d) = d.size
-size_of Unknown = 0
+abbrev pub size_of : Option Device → ℕ
+size_of (Some d) = d.size
+size_of None = 0
 
 abbrev pub FitsCall : asked.Call → Type 0
 FitsCall ask.Nothing = Unit {0}

@@ -11,7 +11,7 @@ ghost use Rattle.calling.specs.Text.{FitsCall, value_shown, called_of, is_resize
 
 use asked::{Call, Made};
 use client::state::{Client, Device, Outcome, Phase, Value};
-use client::{Called, Info, Stepped, state};
+use client::{Called, Stepped, state};
 use lines::answer::Answer;
 use lines::places::{Sizes, Step};
 use lines::room::Moved;
@@ -74,10 +74,9 @@ fn resizing(s: Client) -> bool
 fn size(s: Client) -> u64
     ensures { result ≡ size_of (known s) }
 {
-    let i = s.info();
-    match i {
-        Info::Known(d) => d.size,
-        Info::Unknown => 0,
+    match s.info() {
+        Some(d) => d.size,
+        None => 0,
     }
 }
 
@@ -103,10 +102,9 @@ fn show_device(d: Device) {
 
 fn show(s: Client) {
     lines::text(b"client");
-    let i = s.info();
-    match i {
-        Info::Known(d) => show_device(d),
-        Info::Unknown => lines::text(b" -"),
+    match s.info() {
+        Some(d) => show_device(d),
+        None => lines::text(b" -"),
     }
     answer::close(false);
 }

@@ -15,6 +15,7 @@ use borrow.Author.Tests.{eqb-false, ltb-false}
 use lib.Dec.{eqb, ltb, leb}
 use lib.ListN.{length}
 use lib.Seq.{length-take-le}
+use Rattle.std.specs.Prelude.{Result, Ok, Err}
 use Rattle.machine.specs.Choice.{pick}
 use Rattle.machine.specs.Machine.{on, rests}
 use Rattle.machine.proofs.Moves.{resting}
@@ -34,8 +35,7 @@ use Rattle.client.specs.declared.state.Outcome.TheVariants.{Open, Succeeded}
 use Rattle.client.specs.declared.state.Client.{Client}
 use Rattle.client.specs.declared.Called.{Called}
 use Rattle.client.specs.declared.Stepped.{Stepped}
-use Rattle.client.specs.declared.CallCheck.{CallCheck}
-use Rattle.client.specs.declared.CallCheck.TheVariants.{On, Not}
+use Rattle.client.specs.declared.refusal.Refusal.{Refusal}
 use Rattle.client.proofs.Refusals.{accepted, sound_ranges, sound_lent, call_ranged}
 use Rattle.client.proofs.Kept.{sound}
 use Rattle.client.proofs.Tidy.{viewed, tidied}
@@ -136,18 +136,18 @@ begun_range d c h = go (eqb (amount c) 0) refl
     go false e = opened_range d c (h (eqb-false (amount c) 0 e))
 
 module _ (s : Client) (h : in_range s ≡ true) where
-  called_range : (f : Device → Called) → ((d : Device) → in_range (f d).state ≡ true) → (m : CallCheck) → in_range (called s f m).state ≡ true
-  called_range f k (On d) = k d
-  called_range f k (Not why) = h
+  called_range : (f : Device → Called) → ((d : Device) → in_range (f d).state ≡ true) → (m : Result Device Refusal) → in_range (called s f m).state ≡ true
+  called_range f k (Ok d) = k d
+  called_range f k (Err why) = h
 
   sought_range : (d : Device) (o : Option ℕ) → in_range (sought_to s d o).state ≡ true
   sought_range d none = h
   sought_range d (some p) = coded_range (Ready (positioned d p)) refl
 
   moving_range : (f : ℕ → Call) (k : ℕ) → ((d : Device) (n : ℕ) → transfer d k ≡ some n → (amount (f n) ≡ 0 → ⊥) → GoodCall d (f n))
-      → (m : CallCheck) → in_range (moving s f (granted_on k m)).state ≡ true
-  moving_range f k ok (Not why) = h
-  moving_range f k ok (On d) = at (transfer d k) refl
+      → (m : Result Device Refusal) → in_range (moving s f (granted_on k m)).state ≡ true
+  moving_range f k ok (Err why) = h
+  moving_range f k ok (Ok d) = at (transfer d k) refl
     where
       at : (o : Option ℕ) → transfer d k ≡ o → in_range (moving s f (granted_at d o)).state ≡ true
       at none e = h

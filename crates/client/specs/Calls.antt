@@ -12,6 +12,7 @@
 --   positioned d p             the device with its position at p
 --   moved d c                  the device after a call that succeeds
 use Rattle.std.specs.Prelude.{ℕ, min, ◌+◌, ◌-◌, ◌/◌, ◌%◌, Bool, List, eqb, ltb}
+use Rattle.std.specs.Prelude as answer
 use Rattle.std.proofs.Math.Option.{Option, none, some}
 use Rattle.machine.specs.Choice.{pick, both}
 use Rattle.wire.specs.Numbers.{clamped, added}
@@ -23,8 +24,6 @@ use Rattle.client.specs.declared.state.Call.{Call}
 use Rattle.client.specs.declared.state.Call.TheVariants.{Read, Write, Flush, Trim, Resize}
 use Rattle.client.specs.declared.state.Value.{Value}
 use Rattle.client.specs.declared.state.Value.TheVariants as value
-use Rattle.client.specs.declared.calls.Span.{Span}
-use Rattle.client.specs.declared.calls.Span.TheVariants.{Bytes, Past}
 use Rattle.client.specs.declared.state.SeekFrom.{SeekFrom}
 use Rattle.client.specs.declared.state.SeekFrom.TheVariants.{Start, Current, End}
 
@@ -54,9 +53,9 @@ transfer d k =
     pick (eqb d.position d.size) (some 0)
     (pick (ltb d.size d.position) none (some (clamped (min k (d.size - d.position)))))
 
-abbrev pub transfer_of : Span → Option ℕ
-transfer_of (Bytes n) = some n
-transfer_of Past = none
+abbrev pub transfer_of : answer.Option ℕ → Option ℕ
+transfer_of (answer.Some n) = some n
+transfer_of answer.None = none
 
 -- "Seek from the start takes any 64-bit value"
 abbrev pub sought : Device → SeekFrom → Option ℕ

@@ -15,7 +15,8 @@
 --   after x, outcome_of x       where a client stands after a step that went as far as x, and the step's outcome
 --   number_at, values_at         01's number and values for each place where a step ends
 --   Refuses, Accepts, Drives   a step: refused, with nothing changed; or as far as the input and the room go; and which of the two
-use Rattle.std.specs.Prelude.{ℕ, ◌≡◌, List, [], ◌∷◌, eqb, leb, length}
+use Rattle.std.specs.Prelude.{ℕ, ◌≡◌, List, [], ◌∷◌, eqb, leb, length, Result, Ok, Err}
+use Rattle.std.specs.Prelude as told
 use Rattle.std.proofs.Math.Option.{Option, none, some}
 use Rattle.machine.specs.Choice.{pick}
 use Rattle.machine.specs.Machine.{on}
@@ -23,7 +24,7 @@ use Rattle.machine.specs.Pieces.{Steps}
 use Rattle.client.specs.Calls.{transfer, sought, amount, positioned, value_of}
 use Rattle.client.specs.Session.{Magic, Asking, State, Blank, Shaking, Ready, Calling, Closed, Over, turn}
 use Rattle.client.specs.View.{view, code}
-use Rattle.client.specs.Ranges.{in_range, refusal}
+use Rattle.client.specs.Ranges.{in_range, refusal, number}
 use Rattle.client.specs.declared.state.Fields.{Fields}
 use Rattle.client.specs.declared.state.Device.{Device}
 use Rattle.client.specs.declared.state.Call.{Call}
@@ -36,12 +37,9 @@ use Rattle.client.specs.declared.state.Client.{Client}
 use Rattle.client.specs.declared.state.SeekFrom.{SeekFrom}
 use Rattle.client.specs.declared.Called.{Called}
 use Rattle.client.specs.declared.Stepped.{Stepped}
-use Rattle.client.specs.declared.Info.{Info}
-use Rattle.client.specs.declared.Info.TheVariants.{Known, Unknown}
-use Rattle.client.specs.declared.CallCheck.{CallCheck}
-use Rattle.client.specs.declared.CallCheck.TheVariants.{On, Not}
 use Rattle.client.specs.declared.Transfer.{Transfer}
-use Rattle.client.specs.declared.Transfer.TheVariants.{Bytes, No}
+use Rattle.client.specs.declared.refusal.Refusal.{Refusal}
+use Rattle.client.specs.declared.refusal.Refusal.TheVariants.{PastSize, NotNow, OutOfRange}
 
 -- ---- 01's numbers and values: "a call that succeeds answers without a number"
 abbrev pub number_of : Outcome → Option ℕ
@@ -80,44 +78,44 @@ abbrev pub refused : ℕ → Client → Called
 refused why s = record { state = s; outcome = Refused why }
 
 -- whether a call may be made: 53, then 51, "call while one is open, before ready or after an end"
-abbrev pub call_check_at : State → CallCheck
-call_check_at Blank = Not 51
-call_check_at (Shaking n p) = Not 51
-call_check_at (Ready d) = On d
-call_check_at (Calling d c p) = Not 51
-call_check_at (Closed o d) = Not 51
-call_check_at (Over n) = Not 51
+abbrev pub call_check_at : State → Result Device Refusal
+call_check_at Blank = Err NotNow
+call_check_at (Shaking n p) = Err NotNow
+call_check_at (Ready d) = Ok d
+call_check_at (Calling d c p) = Err NotNow
+call_check_at (Closed o d) = Err NotNow
+call_check_at (Over n) = Err NotNow
 
-abbrev pub call_check : Client → CallCheck
-call_check s = pick (in_range s) (call_check_at (view s)) (Not 53)
+abbrev pub call_check : Client → Result Device Refusal
+call_check s = pick (in_range s) (call_check_at (view s)) (Err OutOfRange)
 
-abbrev pub called : Client → (Device → Called) → CallCheck → Called
-called s f (On d) = f d
-called s f (Not why) = refused why s
+abbrev pub called : Client → (Device → Called) → Result Device Refusal → Called
+called s f (Ok d) = f d
+called s f (Err why) = refused (number why) s
 
 -- a call that goes out
 abbrev pub opened : Device → Call → Called
 opened d c = answer (Calling d c (Asking 28)) Open
 
 -- how many bytes a call may move: then 49, "position past size"
-abbrev pub granted_at : Device → Option ℕ → Transfer
-granted_at d none = No 49
-granted_at d (some n) = Bytes d n
+abbrev pub granted_at : Device → Option ℕ → Result Transfer Refusal
+granted_at d none = Err PastSize
+granted_at d (some n) = Ok (record { device = d; n = n })
 
-abbrev pub granted_on : ℕ → CallCheck → Transfer
-granted_on k (On d) = granted_at d (transfer d k)
-granted_on k (Not why) = No why
+abbrev pub granted_on : ℕ → Result Device Refusal → Result Transfer Refusal
+granted_on k (Ok d) = granted_at d (transfer d k)
+granted_on k (Err why) = Err why
 
-abbrev pub granted : ℕ → Client → Transfer
+abbrev pub granted : ℕ → Client → Result Transfer Refusal
 granted k s = granted_on k (call_check s)
 
 -- "n = 0 sends nothing and succeeds"
 abbrev pub begun : Device → Call → Called
 begun d c = pick (eqb (amount c) 0) (answer (Ready d) (Succeeded (value_of c))) (opened d c)
 
-abbrev pub moving : Client → (ℕ → Call) → Transfer → Called
-moving s f (Bytes d n) = begun d (f n)
-moving s f (No why) = refused why s
+abbrev pub moving : Client → (ℕ → Call) → Result Transfer Refusal → Called
+moving s f (Ok t) = begun t.device (f t.n)
+moving s f (Err why) = refused (number why) s
 
 -- by the length of the buffer, or of what is to be trimmed
 abbrev pub reading : ℕ → Client → Called
@@ -167,16 +165,16 @@ abbrev pub end_of_input : Client → Called
 end_of_input s = pick (in_range s) (ended_at s (view s)) (refused 53 s)
 
 -- ---- what a user asks
-abbrev pub known_at : State → Info
-known_at Blank = Unknown
-known_at (Shaking n p) = Unknown
-known_at (Ready d) = Known d
-known_at (Calling d c p) = Known d
-known_at (Closed o d) = Known d
-known_at (Over n) = Unknown
+abbrev pub known_at : State → told.Option Device
+known_at Blank = told.None
+known_at (Shaking n p) = told.None
+known_at (Ready d) = told.Some d
+known_at (Calling d c p) = told.Some d
+known_at (Closed o d) = told.Some d
+known_at (Over n) = told.None
 
-abbrev pub known : Client → Info
-known s = pick (in_range s) (known_at (view s)) Unknown
+abbrev pub known : Client → told.Option Device
+known s = pick (in_range s) (known_at (view s)) told.None
 
 -- ---- a step
 -- where a client stands after it: a result is told once and not remembered

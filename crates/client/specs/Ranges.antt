@@ -8,7 +8,9 @@
 --   lent_to c      how many bytes are lent while the call is open
 --   same_loan k x  whether what is lent, k bytes, has the length that it had at the start
 --   refusal k s   why a step is refused, with k bytes lent: 53, then 52; 0 where it is not
-use Rattle.std.specs.Prelude.{ℕ, ◌+◌, Bool, true, false, eqb, ltb, leb, length, drop}
+--   number why    01's number of a refusal
+--   refusal_of    why a step is refused, by the code's answer
+use Rattle.std.specs.Prelude.{ℕ, ◌+◌, Bool, true, false, eqb, ltb, leb, length, drop, ⊤, Result, Ok, Err}
 use Rattle.machine.specs.Choice.{pick, both, either, between}
 use Rattle.machine.specs.Parts.{blank}
 use Rattle.client.specs.Calls.{payload, wanted}
@@ -19,6 +21,8 @@ use Rattle.client.specs.declared.state.Device.{Device}
 use Rattle.client.specs.declared.state.Call.{Call}
 use Rattle.client.specs.declared.state.Call.TheVariants.{Read, Write, Flush, Trim, Resize}
 use Rattle.client.specs.declared.state.Client.{Client}
+use Rattle.client.specs.declared.refusal.Refusal.{Refusal}
+use Rattle.client.specs.declared.refusal.Refusal.TheVariants.{LongName, SeekOutside, PastSize, NotNow, OtherLength, OutOfRange}
 
 -- ---- the ranges
 abbrev pub ranged_shaking : ℕ → Handshake → Bool
@@ -84,3 +88,16 @@ same_loan k (Over n) = true
 
 abbrev pub refusal : ℕ → Client → ℕ
 refusal k s = pick (in_range s) (pick (same_loan k (view s)) 0 52) 53
+
+-- ---- 01's numbers
+abbrev pub number : Refusal → ℕ
+number LongName = 44
+number SeekOutside = 48
+number PastSize = 49
+number NotNow = 51
+number OtherLength = 52
+number OutOfRange = 53
+
+abbrev pub refusal_of : Result ⊤ Refusal → ℕ
+refusal_of (Ok t) = 0
+refusal_of (Err why) = number why

@@ -1,5 +1,5 @@
 // The calls: how many bytes they move, their requests, and what a success changes.
-ghost use Rattle.std.specs.Prelude.{◌≡◌, min};
+ghost use Rattle.std.specs.Prelude.{◌≡◌};
 ghost use Rattle.wire.specs.Numbers.{sum_of};
 ghost use Rattle.client.specs.Calls.{
   transfer,
@@ -21,33 +21,20 @@ use crate::state::{Call, Device, SeekFrom, Value};
 use wire::number::Added;
 use wire::{consts, fields, number};
 
-// How many bytes a call moves, or that the position is past the size.
-#[derive(Clone, Copy)]
-pub enum Span {
-    Bytes(u32),
-    Past,
-}
-
 // ---- before a call is opened
 
-fn least_u64(a: u64, b: u64) -> u64
-    ensures { result ≡ min a b }
-{
-    if a < b { a } else { b }
-}
-
-// How many bytes a read, a write or a trim of k bytes moves.
-pub fn transfer(d: Device, k: u64) -> Span
+// How many bytes a read, a write or a trim of k bytes moves. None where the position is past the size.
+#[tactic(auto, unfolding(crate::specs::Calls::transfer))]
+pub fn transfer(d: Device, k: u64) -> Option<u32>
     ensures { transfer_of result ≡ transfer d k }
 {
     if d.position == d.size {
-        return Span::Bytes(0);
+        return Some(0);
     }
     if d.size < d.position {
-        return Span::Past;
+        return None;
     }
-    let n = least_u64(k, d.size - d.position);
-    Span::Bytes(number::clamp_to_u32(n))
+    Some(number::clamp_to_u32(k.min(d.size - d.position)))
 }
 
 // Where a seek leads.
@@ -69,9 +56,8 @@ pub fn amount(c: Call) -> u32
     match c {
         Call::Read { n, .. } => n,
         Call::Write { n, .. } => n,
-        Call::Flush => 0,
         Call::Trim { n } => n,
-        Call::Resize { .. } => 0,
+        _ => 0,
     }
 }
 
@@ -79,11 +65,8 @@ pub fn payload(c: Call) -> u32
     ensures { result ≡ payload c }
 {
     match c {
-        Call::Read { .. } => 0,
         Call::Write { n, .. } => n,
-        Call::Flush => 0,
-        Call::Trim { .. } => 0,
-        Call::Resize { .. } => 0,
+        _ => 0,
     }
 }
 
@@ -92,10 +75,7 @@ pub fn wanted(c: Call) -> u32
 {
     match c {
         Call::Read { n, .. } => n,
-        Call::Write { .. } => 0,
-        Call::Flush => 0,
-        Call::Trim { .. } => 0,
-        Call::Resize { .. } => 0,
+        _ => 0,
     }
 }
 
@@ -140,12 +120,7 @@ pub fn request_bytes(d: Device, c: Call) -> [u8; 28]
 pub fn positioned(d: Device, p: u64) -> Device
     ensures { result ≡ positioned d p }
 {
-    let fields = d.fields;
-    Device {
-        size: d.size,
-        position: p,
-        fields,
-    }
+    Device { position: p, ..d }
 }
 
 pub fn value_of(c: Call) -> Value
@@ -154,9 +129,7 @@ pub fn value_of(c: Call) -> Value
     match c {
         Call::Read { n, .. } => Value::Bytes(n),
         Call::Write { n, .. } => Value::Bytes(n),
-        Call::Flush => Value::Nothing,
-        Call::Trim { .. } => Value::Nothing,
-        Call::Resize { .. } => Value::Nothing,
+        _ => Value::Nothing,
     }
 }
 
@@ -168,15 +141,7 @@ pub fn moved(d: Device, c: Call) -> Device
     match c {
         Call::Read { n, .. } => positioned(d, d.position + n as u64),
         Call::Write { n, .. } => positioned(d, d.position + n as u64),
-        Call::Flush => d,
-        Call::Trim { .. } => d,
-        Call::Resize { size } => {
-            let fields = d.fields;
-            Device {
-                size,
-                position: d.position,
-                fields,
-            }
-        }
+        Call::Resize { size } => Device { size, ..d },
+        _ => d,
     }
 }

@@ -5,12 +5,14 @@ mod calls;
 mod handshake;
 mod idle;
 mod ranges;
+mod refusal;
 pub mod state;
 mod step;
 mod transmission;
 
 ghost use Rattle.std.specs.Prelude.{◌≡◌, length};
 ghost use Rattle.client.specs.Session.{Blank, Ready, Over};
+ghost use Rattle.client.specs.Ranges.{number};
 ghost use Rattle.client.specs.Contract.{
   fresh,
   answer,
@@ -33,7 +35,7 @@ ghost use Rattle.client.specs.Contract.{
 };
 ghost use Rattle.client.specs.declared.state.Outcome.TheVariants as outcome;
 
-use calls::Span;
+use refusal::Refusal;
 use state::{Call, Client, Device, Handshake, Outcome, Phase, Progress, SeekFrom, Value};
 use wire::number::Added;
 
@@ -51,36 +53,21 @@ pub struct Stepped {
     pub outcome: Outcome,
 }
 
-// What a user may ask of a client.
+// What a read, a write or a trim may move: so many bytes of this device.
 #[derive(Clone, Copy)]
-pub enum Info {
-    Known(Device),
-    // before the handshake is closed, and after an end
-    Unknown,
-}
-
-// Whether a call may be made: on this device, or not, with 01's number.
-#[derive(Clone, Copy)]
-pub enum CallCheck {
-    On(Device),
-    Not(u8),
-}
-
-// How many bytes a call may move on this device, or none, with 01's number.
-#[derive(Clone, Copy)]
-pub enum Transfer {
-    Bytes(Device, u32),
-    No(u8),
+pub struct Transfer {
+    pub device: Device,
+    pub n: u32,
 }
 
 // ---- answers of calls
 
-fn refused(s: Client, why: u8) -> Called
-    ensures { result ≡ refused why s }
+fn refused(s: Client, why: Refusal) -> Called
+    ensures { result ≡ refused (number why) s }
 {
     Called {
         state: s,
-        outcome: Outcome::Refused(why),
+        outcome: Outcome::Refused(why.number()),
     }
 }
 
@@ -148,39 +135,26 @@ impl Client {
 
     // ---- calls
 
-    // Whether a call may be made.
-    fn call_check(self) -> CallCheck
+    // The device, if a call may be made on it.
+    fn call_check(self) -> Result<Device, Refusal>
         ensures { result ≡ call_check self }
     {
         if !ranges::in_range(self) {
-            return CallCheck::Not(53);
+            return Err(Refusal::OutOfRange);
         }
-        let p = self.phase;
-        match p {
-            Phase::Blank => CallCheck::Not(51),
-            Phase::Shaking(_, _) => CallCheck::Not(51),
-            Phase::Ready(d) => CallCheck::On(d),
-            Phase::Calling(_, _, _) => CallCheck::Not(51),
-            Phase::Closed(_, _) => CallCheck::Not(51),
-            Phase::Over(_) => CallCheck::Not(51),
+        match self.phase {
+            Phase::Ready(d) => Ok(d),
+            _ => Err(Refusal::NotNow),
         }
     }
 
     // How many bytes a call may move that is asked to move k.
-    fn granted(self, k: u64) -> Transfer
+    fn granted(self, k: u64) -> Result<Transfer, Refusal>
         ensures { result ≡ granted k self }
     {
-        let m = self.call_check();
-        match m {
-            CallCheck::On(d) => {
-                let n = calls::transfer(d, k);
-                match n {
-                    Span::Bytes(n) => Transfer::Bytes(d, n),
-                    Span::Past => Transfer::No(49),
-                }
-            }
-            CallCheck::Not(why) => Transfer::No(why),
-        }
+        let device = self.call_check()?;
+        let n = calls::transfer(device, k).ok_or(Refusal::PastSize)?;
+        Ok(Transfer { device, n })
     }
 
     // Opens the handshake with a name of n bytes.
@@ -196,7 +170,7 @@ impl Client {
                 outcome: Outcome::Open,
             }
         } else {
-            refused(self, 44)
+            refused(self, Refusal::LongName)
         }
     }
 
@@ -205,16 +179,11 @@ impl Client {
         ensures { result ≡ shaken (length name.now) self }
     {
         if !ranges::in_range(self) {
-            return refused(self, 53);
+            return refused(self, Refusal::OutOfRange);
         }
-        let p = self.phase;
-        match p {
+        match self.phase {
             Phase::Blank => self.shake(name.len()),
-            Phase::Shaking(_, _) => refused(self, 51),
-            Phase::Ready(_) => refused(self, 51),
-            Phase::Calling(_, _, _) => refused(self, 51),
-            Phase::Closed(_, _) => refused(self, 51),
-            Phase::Over(_) => refused(self, 51),
+            _ => refused(self, Refusal::NotNow),
         }
     }
 
@@ -223,10 +192,9 @@ impl Client {
         ensures { result ≡ reading (length buffer.now) self }
     {
         let len = buffer.len();
-        let g = self.granted(len as u64);
-        match g {
-            Transfer::Bytes(d, n) => begun(d, Call::Read { n, len }),
-            Transfer::No(why) => refused(self, why),
+        match self.granted(len as u64) {
+            Ok(Transfer { device, n }) => begun(device, Call::Read { n, len }),
+            Err(why) => refused(self, why),
         }
     }
 
@@ -235,56 +203,48 @@ impl Client {
         ensures { result ≡ writing (length buffer.now) self }
     {
         let len = buffer.len();
-        let g = self.granted(len as u64);
-        match g {
-            Transfer::Bytes(d, n) => begun(d, Call::Write { n, len }),
-            Transfer::No(why) => refused(self, why),
+        match self.granted(len as u64) {
+            Ok(Transfer { device, n }) => begun(device, Call::Write { n, len }),
+            Err(why) => refused(self, why),
         }
     }
 
     pub fn trim(self, length: u64) -> Called
         ensures { result ≡ trimming length self }
     {
-        let g = self.granted(length);
-        match g {
-            Transfer::Bytes(d, n) => begun(d, Call::Trim { n }),
-            Transfer::No(why) => refused(self, why),
+        match self.granted(length) {
+            Ok(Transfer { device, n }) => begun(device, Call::Trim { n }),
+            Err(why) => refused(self, why),
         }
     }
 
     pub fn flush(self) -> Called
         ensures { result ≡ flushing self }
     {
-        let m = self.call_check();
-        match m {
-            CallCheck::On(d) => opened(d, Call::Flush),
-            CallCheck::Not(why) => refused(self, why),
+        match self.call_check() {
+            Ok(d) => opened(d, Call::Flush),
+            Err(why) => refused(self, why),
         }
     }
 
     pub fn resize(self, size: u64) -> Called
         ensures { result ≡ resizing size self }
     {
-        let m = self.call_check();
-        match m {
-            CallCheck::On(d) => opened(d, Call::Resize { size }),
-            CallCheck::Not(why) => refused(self, why),
+        match self.call_check() {
+            Ok(d) => opened(d, Call::Resize { size }),
+            Err(why) => refused(self, why),
         }
     }
 
     pub fn seek(self, from: SeekFrom) -> Called
         ensures { result ≡ seeking from self }
     {
-        let m = self.call_check();
-        match m {
-            CallCheck::On(d) => {
-                let to = calls::sought(d, from);
-                match to {
-                    Added::Sum(p) => ready(calls::positioned(d, p), Value::Position(p)),
-                    Added::Outside => refused(self, 48),
-                }
-            }
-            CallCheck::Not(why) => refused(self, why),
+        match self.call_check() {
+            Ok(d) => match calls::sought(d, from) {
+                Added::Sum(p) => ready(calls::positioned(d, p), Value::Position(p)),
+                Added::Outside => refused(self, Refusal::SeekOutside),
+            },
+            Err(why) => refused(self, why),
         }
     }
 
@@ -293,37 +253,29 @@ impl Client {
         ensures { result ≡ end_of_input self }
     {
         if !ranges::in_range(self) {
-            return refused(self, 53);
+            return refused(self, Refusal::OutOfRange);
         }
-        let p = self.phase;
-        match p {
-            Phase::Blank => ended(),
-            Phase::Shaking(_, _) => ended(),
-            Phase::Ready(_) => ended(),
-            Phase::Calling(_, _, _) => ended(),
-            Phase::Closed(_, _) => ended(),
+        match self.phase {
             Phase::Over(n) => Called {
                 state: self,
                 outcome: Outcome::Ended(n),
             },
+            _ => ended(),
         }
     }
 
-    // What a user asks: size, position and the five fields.
-    pub fn info(self) -> Info
+    // What a user asks: size, position and the five fields. None before the handshake is closed, and after an end.
+    pub fn info(self) -> Option<Device>
         ensures { result ≡ known self }
     {
         if !ranges::in_range(self) {
-            return Info::Unknown;
+            return None;
         }
-        let p = self.phase;
-        match p {
-            Phase::Blank => Info::Unknown,
-            Phase::Shaking(_, _) => Info::Unknown,
-            Phase::Ready(d) => Info::Known(d),
-            Phase::Calling(d, _, _) => Info::Known(d),
-            Phase::Closed(_, d) => Info::Known(d),
-            Phase::Over(_) => Info::Unknown,
+        match self.phase {
+            Phase::Ready(d) => Some(d),
+            Phase::Calling(d, _, _) => Some(d),
+            Phase::Closed(_, d) => Some(d),
+            _ => None,
         }
     }
 
@@ -334,13 +286,12 @@ impl Client {
         ensures { Drives self lent.old input.now room.old
             result lent.new room.new }
     {
-        let why = ranges::refusal(self, lent.len());
-        if why != 0 {
+        if let Err(why) = ranges::refusal(self, lent.len()) {
             return Stepped {
                 state: self,
                 taken: 0,
                 given: 0,
-                outcome: Outcome::Refused(why),
+                outcome: Outcome::Refused(why.number()),
             };
         }
         let r = step::advance(self, input, room, lent);

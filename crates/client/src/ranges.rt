@@ -12,9 +12,11 @@ ghost use Rattle.client.specs.Ranges.{
   lent_to,
   same_loan,
   refusal,
+  refusal_of,
 };
 
 use crate::calls;
+use crate::refusal::Refusal;
 use crate::state::{Call, Client, Device, Handshake, Phase, Progress};
 use machine::parts;
 use machine::tests::{between, both, within};
@@ -165,9 +167,7 @@ fn lent_to(c: Call) -> usize
     match c {
         Call::Read { len, .. } => len,
         Call::Write { len, .. } => len,
-        Call::Flush => 0,
-        Call::Trim { .. } => 0,
-        Call::Resize { .. } => 0,
+        _ => 0,
     }
 }
 
@@ -176,23 +176,21 @@ fn same_loan(p: Phase, k: usize) -> bool
     ensures { (h : List ℕ) → result ≡ same_loan k (view_of h p) }
 {
     match p {
-        Phase::Blank => true,
         Phase::Shaking(name, _) => name == k,
-        Phase::Ready(_) => true,
         Phase::Calling(_, c, _) => lent_to(c) == k,
-        Phase::Closed(_, _) => true,
-        Phase::Over(_) => true,
+        _ => true,
     }
 }
 
-// Why a step with k bytes lent is refused; 0 where it is not.
-pub fn refusal(s: Client, k: usize) -> u8
-    ensures { result ≡ refusal k s }
+// Why a step with k bytes lent is refused, if it is.
+pub fn refusal(s: Client, k: usize) -> Result<(), Refusal>
+    ensures { refusal_of result ≡ refusal k s }
 {
-    if in_range(s) {
-        let p = s.phase;
-        if same_loan(p, k) { 0 } else { 52 }
+    if !in_range(s) {
+        Err(Refusal::OutOfRange)
+    } else if !same_loan(s.phase, k) {
+        Err(Refusal::OtherLength)
     } else {
-        53
+        Ok(())
     }
 }

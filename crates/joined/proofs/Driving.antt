@@ -13,6 +13,7 @@ use mathlib.Core.Option.{Option, none, some}
 use borrow.Author.Tests.{eq-eqb}
 use lib.Dec.{eqb}
 use lib.ListN.{length}
+use Rattle.std.specs.Prelude.{Result, Ok}
 use Rattle.machine.specs.Choice.{pick}
 use Rattle.machine.specs.Machine.{On, on, Moves}
 use Rattle.machine.specs.Follows.{Follows}
@@ -28,15 +29,14 @@ use Rattle.client.specs.declared.state.Call.TheVariants.{Read, Write, Flush, Tri
 use Rattle.client.specs.declared.state.Client.{Client}
 use Rattle.client.specs.declared.state.Outcome.TheVariants.{Succeeded}
 use Rattle.client.specs.declared.Called.{Called}
-use Rattle.client.specs.declared.CallCheck.{CallCheck}
-use Rattle.client.specs.declared.CallCheck.TheVariants as may_be
-use Rattle.wire.specs.Results.{Result}
+use Rattle.client.specs.declared.refusal.Refusal.{Refusal}
+use Rattle.wire.specs.Results as results
 use Rattle.joined.specs.Disk.{Call, read, write, seek, flush, trim}
 use Rattle.joined.specs.Code.{seek_from, calls, buffer, collected}
 use Rattle.joined.proofs.Called.{NotBlank, begun}
 use Rattle.joined.proofs.Driver.{Begun, out, shut, granted, sought_at, begin, going, next, settle, drive}
 
-module _ (ks : List Call) (rs : List Result) where
+module _ (ks : List Call) (rs : List results.Result) where
   pub followed : Follows turn drive (λ x. settle x ks rs)
   followed (on Blank m) h = absurd (h refl)
   followed (on (Shaking n p) m) h = refl
@@ -75,19 +75,19 @@ module _ (c : Client) (d : Device) (ready : view c ≡ Ready d) where
   sought_made (some p) = (refl, refl)
 
   module _ (fine : in_range c ≡ true) where
-    may_on : call_check c ≡ may_be.On d
+    may_on : call_check c ≡ Ok d
     may_on = rw (fine, ready)
 
     pub made : (k : Call) → Made d (begin d k) (calls k c)
     made (read buf) =
         let f : ℕ → request.Call = λ n. Read n (length buf) in
-        rw (ap (λ (x : CallCheck). moving c f (granted_on (length buf) x)) may_on) (moving_made f (transfer d (length buf)))
+        rw (ap (λ (x : Result Device Refusal). moving c f (granted_on (length buf) x)) may_on) (moving_made f (transfer d (length buf)))
     made (write buf) =
         let f : ℕ → request.Call = λ n. Write n (length buf) in
-        rw (ap (λ (x : CallCheck). moving c f (granted_on (length buf) x)) may_on) (moving_made f (transfer d (length buf)))
-    made (seek f) = rw (ap (λ (x : CallCheck). called c (λ e. sought_to c e (sought e (seek_from f))) x) may_on) (sought_made (sought d (seek_from f)))
-    made flush = ap (λ (x : CallCheck). called c (λ e. opened e Flush) x) may_on
-    made (trim k) = rw (ap (λ (x : CallCheck). moving c Trim (granted_on k x)) may_on) (moving_made Trim (transfer d k))
+        rw (ap (λ (x : Result Device Refusal). moving c f (granted_on (length buf) x)) may_on) (moving_made f (transfer d (length buf)))
+    made (seek f) = rw (ap (λ (x : Result Device Refusal). called c (λ e. sought_to c e (sought e (seek_from f))) x) may_on) (sought_made (sought d (seek_from f)))
+    made flush = ap (λ (x : Result Device Refusal). called c (λ e. opened e Flush) x) may_on
+    made (trim k) = rw (ap (λ (x : Result Device Refusal). moving c Trim (granted_on k x)) may_on) (moving_made Trim (transfer d k))
 
 -- ---- what is lent to a call that goes out
 abbrev Lends : List ℕ → Begun → Type 0
@@ -117,7 +117,7 @@ lent_to_lem : (d : Device) (b : Begun) (buf : List ℕ) (r : Called) → Made d 
 lent_to_lem d (out q) buf r e h = rw e (eq-eqb (lent_to q) (length buf) h)
 lent_to_lem d (shut o d') buf r e h = rw e.1
 
-stands_at : (d : Device) (b : Begun) (buf : List ℕ) (r : Called) (ks : List Call) (rs : List Result) → Made d b r
+stands_at : (d : Device) (b : Begun) (buf : List ℕ) (r : Called) (ks : List Call) (rs : List results.Result) → Made d b r
     → settle (on (view r.state) buf) ks (collected r.outcome buf rs) ≡ going d b buf ks rs (λ d' rs'. next d' ks rs')
 stands_at d (out q) buf r ks rs e = rw e
 stands_at d (shut o d') buf r ks rs e = rw (e.0, e.1)
@@ -133,11 +133,11 @@ module _ (k : Call) (c : Client) (d : Device) (ready : view c ≡ Ready d) (fine
       go (out q) r e = rw e tt
       go (shut o d') r e = rw e.1 tt
 
-  pub already : (m : List ℕ) (ks : List Call) (rs : List Result)
+  pub already : (m : List ℕ) (ks : List Call) (rs : List results.Result)
       → settle (on (view (calls k c).state) (buffer k)) ks (collected (calls k c).outcome (buffer k) rs) ≡ settle (on (view c) m) (k ∷ ks) rs
   already m ks rs = stands_at d (begin d k) (buffer k) (calls k c) ks rs (made c d ready fine k) ∙ ap (λ (x : State). settle (on x m) (k ∷ ks) rs) (sym ready)
 
-pub shaken_already : (c : Client) (m : List ℕ) (ks : List Call) (rs : List Result) → view c ≡ Blank → in_range c ≡ true → length m ≤ 4096
+pub shaken_already : (c : Client) (m : List ℕ) (ks : List Call) (rs : List results.Result) → view c ≡ Blank → in_range c ≡ true → length m ≤ 4096
     → settle (on (view (shaken (length m) c).state) m) ks (collected (shaken (length m) c).outcome m rs) ≡ settle (on (view c) m) ks rs
 shaken_already c m ks rs blank fine h =
     ap (λ (r : Called). settle (on (view r.state) m) ks (collected r.outcome m rs)) (begun c (length m) blank fine h)
