@@ -8,7 +8,7 @@ use Prim.Native.Nat.{ℕ, suc, min, ◌+◌, ◌-◌, ◌^◌, ◌≤◌}
 use mathlib.Core.Path.{◌≡◌, refl}
 use mathlib.Core.Bool.{Bool, true, false, not}
 use mathlib.Core.List.{List, ◌++◌, append_assoc}
-use mathlib.Core.Option.{none, some}
+use Rattle.std.specs.Prelude.{None, Some}
 use native.Mathlib.Omega.{arith}
 use borrow.Author.Tests.{eqb-true, le-ltb, ltb-true, ltb-false, le-leb, lt-leb}
 use lib.Dec.{eqb, ltb, leb}
@@ -33,12 +33,12 @@ pub record Agrees (e : Export) (d : Device) (k : Disk) : Type 0 where
   pub same_flag : read_only e.flags ≡ k.read_only
 
 -- ---- how many bytes
-one_clause : (s p n : ℕ) → pick (eqb p s) (some 0) (pick (ltb s p) none (some (min (min n (s - p)) (2 ^ 32 - 1))))
-    ≡ pick (ltb s p) none (some (min (min n (s - p)) (2 ^ 32 - 1)))
+one_clause : (s p n : ℕ) → pick (eqb p s) (Some 0) (pick (ltb s p) None (Some (min (min n (s - p)) (2 ^ 32 - 1))))
+    ≡ pick (ltb s p) None (Some (min (min n (s - p)) (2 ^ 32 - 1)))
 one_clause s p n = go (eqb p s) refl
   where
-    go : (b : Bool) → eqb p s ≡ b → pick b (some 0) (pick (ltb s p) none (some (min (min n (s - p)) (2 ^ 32 - 1))))
-        ≡ pick (ltb s p) none (some (min (min n (s - p)) (2 ^ 32 - 1)))
+    go : (b : Bool) → eqb p s ≡ b → pick b (Some 0) (pick (ltb s p) None (Some (min (min n (s - p)) (2 ^ 32 - 1))))
+        ≡ pick (ltb s p) None (Some (min (min n (s - p)) (2 ^ 32 - 1)))
     go true e =
         let h : p ≡ s = eqb-true p s e in
         let z : min (min n (s - p)) (2 ^ 32 - 1) ≡ 0 = omega arith in
@@ -54,12 +54,12 @@ same_sum : (p : ℕ) (z : ℤ) → added p z ≡ shifted p z
 unfolding added
 same_sum p (pos n) = go (ltb (p + n) (2 ^ 64)) refl
   where
-    go : (b : Bool) → ltb (p + n) (2 ^ 64) ≡ b → pick b (some (p + n)) none ≡ pick (leb (2 ^ 64) (p + n)) none (some (p + n))
+    go : (b : Bool) → ltb (p + n) (2 ^ 64) ≡ b → pick b (Some (p + n)) None ≡ pick (leb (2 ^ 64) (p + n)) None (Some (p + n))
     go true e = rw (lt-leb (2 ^ 64) (p + n) (ltb-true (p + n) (2 ^ 64) e))
     go false e = rw (le-leb (2 ^ 64) (p + n) (ltb-false (p + n) (2 ^ 64) e))
 same_sum p (negsuc n) = go (eqb (suc n) (2 ^ 63)) (leb (suc n) p)
   where
-    go : (x y : Bool) → pick x none (pick y (some (p - suc n)) none) ≡ pick (both y (not x)) (some (p - suc n)) none
+    go : (x y : Bool) → pick x None (pick y (Some (p - suc n)) None) ≡ pick (both y (not x)) (Some (p - suc n)) None
     go true true = refl
     go true false = refl
     go false true = refl

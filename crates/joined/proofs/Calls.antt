@@ -6,7 +6,7 @@ use Prim.Native.Nat.{ℕ, zero, suc, min, ◌+◌, ◌-◌, ◌^◌, ◌≤◌, 
 use mathlib.Core.Path.{◌≡◌, refl, sym, ap, ◌∙◌}
 use mathlib.Core.Bool.{Bool, true, false}
 use mathlib.Core.List.{List, [], ◌∷◌, ◌++◌, append-nil, append_assoc}
-use mathlib.Core.Option.{Option, none, some}
+use Rattle.std.specs.Prelude.{Option, None, Some}
 use native.Mathlib.Omega.{arith}
 use borrow.Author.Tests.{ne_eqb, le-ltb}
 use lib.Dec.{ltb}
@@ -46,10 +46,10 @@ use Rattle.joined.proofs.Sent.{asks_sent}
 use Rattle.joined.proofs.Agree.{Agrees, same_transfer, same_target, window_back, image_length, sets_window}
 
 -- what a transfer grants
-pub grants : (k : Disk) (n m : ℕ) → plain.transfer k n ≡ some m → (m ≤ n) × (m < 2 ^ 32) × (0 < m → k.position + m ≤ length k.bytes)
+pub grants : (k : Disk) (n m : ℕ) → plain.transfer k n ≡ Some m → (m ≤ n) × (m < 2 ^ 32) × (0 < m → k.position + m ≤ length k.bytes)
 grants k n m e = go (ltb (length k.bytes) k.position) refl e
   where
-    go : (b : Bool) → ltb (length k.bytes) k.position ≡ b → pick b none (some (min (min n (length k.bytes - k.position)) (2 ^ 32 - 1))) ≡ some m
+    go : (b : Bool) → ltb (length k.bytes) k.position ≡ b → pick b None (Some (min (min n (length k.bytes - k.position)) (2 ^ 32 - 1))) ≡ Some m
         → (m ≤ n) × (m < 2 ^ 32) × (0 < m → k.position + m ≤ length k.bytes)
     go true p q = absurd (let z : ◌≡◌ {A = ℕ} 0 1 = cc in omega arith)
     go false p q =
@@ -122,7 +122,7 @@ module _ (t : List ℕ) (e : Export) (front behind : List ℕ) (starts : length 
 
     -- ---- each call
     read_out : (buf : List ℕ) (n : ℕ) → n ≤ length buf → n < 2 ^ 32 → 0 < n → k.position + n ≤ length k.bytes
-        → Spoken (sends (Read n (length buf)) buf) k ks (rs ++ read_result k buf (some n) ∷ []) (read_after k (some n)) (asking NBD_CMD_READ k n) (simple_reply 0 0 ++ here k n)
+        → Spoken (sends (Read n (length buf)) buf) k ks (rs ++ read_result k buf (Some n) ∷ []) (read_after k (Some n)) (asking NBD_CMD_READ k n) (simple_reply 0 0 ++ here k n)
     read_out buf n below h any g =
         let c = Read n (length buf) in
         let data' = take n (drop d.position k.bytes) in
@@ -134,7 +134,7 @@ module _ (t : List ℕ) (e : Export) (front behind : List ℕ) (starts : length 
         let u : request_bytes d c ++ [] ≡ asking NBD_CMD_READ k n = append-nil (request_bytes d c) ∙ at_position NBD_CMD_READ n in
         let v : data' ≡ here k n = ap (λ (p : ℕ). take n (drop p k.bytes)) a.same_position in
         rw (w, u, v) at
-        (well c buf data' (read_after k (some n)) (omega arith) l (no_payload p) (no_payload (rw (window_back front behind e k.bytes starts a.whole) at q))
+        (well c buf data' (read_after k (Some n)) (omega arith) l (no_payload p) (no_payload (rw (window_back front behind e k.bytes starts a.whole) at q))
         (record { same_size = a.same_size; same_position = ap (λ (x : ℕ). x + n) a.same_position; whole = a.whole; same_flag = a.same_flag }))
 
     module _ (buf : List ℕ) (n : ℕ) (below : n ≤ length buf) (h : n < 2 ^ 32) (any : 0 < n) (g : k.position + n ≤ length k.bytes) where
@@ -203,20 +203,20 @@ module _ (t : List ℕ) (e : Export) (front behind : List ℕ) (starts : length 
     read_by : (buf : List ℕ) (o : Option ℕ) → plain.transfer k (length buf) ≡ o
         → Spoken (going d (granted d (λ n. Read n (length buf)) o) buf ks rs more) k ks (rs ++ read_result k buf o ∷ []) (read_after k o)
         (if_sent o (asking NBD_CMD_READ k)) (if_sent o (λ n. simple_reply 0 0 ++ here k n))
-    read_by buf none q = passed d k ks (rs ++ plain.refused 49 buf ∷ []) a
-    read_by buf (some zero) q =
+    read_by buf None q = passed d k ks (rs ++ plain.refused 49 buf ∷ []) a
+    read_by buf (Some zero) q =
         passed_to d k (k.position + 0) ks (rs ++ plain.succeeds (0 ∷ []) buf ∷ [])
         (record { same_size = a.same_size; same_position = omega (arith, a.same_position); whole = a.whole; same_flag = a.same_flag })
-    read_by buf (some (suc n)) q =
+    read_by buf (Some (suc n)) q =
         let g = grants k (length buf) (suc n) q in
         rw (ne_eqb (suc n) 0 (λ z. omega arith)) (read_out buf (suc n) g.0 g.1 (omega arith) (g.2 (omega arith)))
 
     write_by : (buf : List ℕ) (o : Option ℕ) → plain.transfer k (length buf) ≡ o
         → Spoken (going d (granted d (λ n. Write n (length buf)) o) buf ks rs more) k ks (rs ++ write_result k buf o ∷ []) (write_after k buf o)
         (if_sent o (λ n. asking NBD_CMD_WRITE k n ++ take n buf)) (if_sent o (λ n. simple_reply (pick k.read_only 1 0) 0))
-    write_by buf none q = passed d k ks (rs ++ plain.refused 49 buf ∷ []) a
-    write_by buf (some zero) q = passed d k ks (rs ++ plain.succeeds (0 ∷ []) buf ∷ []) a
-    write_by buf (some (suc n)) q = rw (ne_eqb (suc n) 0 (λ z. omega arith)) (go k.read_only refl)
+    write_by buf None q = passed d k ks (rs ++ plain.refused 49 buf ∷ []) a
+    write_by buf (Some zero) q = passed d k ks (rs ++ plain.succeeds (0 ∷ []) buf ∷ []) a
+    write_by buf (Some (suc n)) q = rw (ne_eqb (suc n) 0 (λ z. omega arith)) (go k.read_only refl)
       where
         go : (b : Bool) → k.read_only ≡ b
             → Spoken (sends (Write (suc n) (length buf)) buf) k ks (rs ++ pick b (plain.fails 1 buf) (plain.succeeds (suc n ∷ []) buf) ∷ []) (pick b k (plain.stored k (suc n) buf))
@@ -226,15 +226,15 @@ module _ (t : List ℕ) (e : Export) (front behind : List ℕ) (starts : length 
 
     trim_by : (len : ℕ) (o : Option ℕ) → plain.transfer k len ≡ o
         → Spoken (going d (granted d Trim o) [] ks rs more) k ks (rs ++ trim_result o ∷ []) k (if_sent o (asking NBD_CMD_TRIM k)) (if_sent o (λ n. simple_reply 38 0))
-    trim_by len none q = passed d k ks (rs ++ plain.refused 49 [] ∷ []) a
-    trim_by len (some zero) q = passed d k ks (rs ++ plain.succeeds [] [] ∷ []) a
-    trim_by len (some (suc n)) q =
+    trim_by len None q = passed d k ks (rs ++ plain.refused 49 [] ∷ []) a
+    trim_by len (Some zero) q = passed d k ks (rs ++ plain.succeeds [] [] ∷ []) a
+    trim_by len (Some (suc n)) q =
         let g = grants k len (suc n) q in
         rw (ne_eqb (suc n) 0 (λ z. omega arith)) (trim_out (suc n) g.1 (omega arith) (g.2 (omega arith)))
 
     seek_by : (o : Option ℕ) → Spoken (going d (sought_at d o) [] ks rs more) k ks (rs ++ seek_result o ∷ []) (seek_after k o) [] []
-    seek_by none = passed d k ks (rs ++ plain.refused 48 [] ∷ []) a
-    seek_by (some p) =
+    seek_by None = passed d k ks (rs ++ plain.refused 48 [] ∷ []) a
+    seek_by (Some p) =
         passed_to (positioned d p) k p ks (rs ++ plain.succeeds (p ∷ []) [] ∷ [])
         (record { same_size = a.same_size; same_position = refl; whole = a.whole; same_flag = a.same_flag })
 

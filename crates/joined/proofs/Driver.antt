@@ -7,7 +7,7 @@
 --   drive         one byte
 use Prim.Native.Nat.{ℕ}
 use mathlib.Core.List.{List, [], ◌∷◌}
-use mathlib.Core.Option.{Option, none, some}
+use Rattle.std.specs.Prelude.{Option, None, Some}
 use lib.Dec.{eqb}
 use lib.ListN.{length}
 use Rattle.machine.specs.Choice.{pick}
@@ -35,12 +35,12 @@ pub data Begun : Type 0 where
   shut : Outcome → Device → Begun
 
 abbrev pub granted : Device → (ℕ → request.Call) → Option ℕ → Begun
-granted d f none = shut (Refused 49) d
-granted d f (some n) = pick (eqb (amount (f n)) 0) (shut (Succeeded (value_of (f n))) d) (out (f n))
+granted d f None = shut (Refused 49) d
+granted d f (Some n) = pick (eqb (amount (f n)) 0) (shut (Succeeded (value_of (f n))) d) (out (f n))
 
 abbrev pub sought_at : Device → Option ℕ → Begun
-sought_at d none = shut (Refused 48) d
-sought_at d (some p) = shut (Succeeded (Position p)) (positioned d p)
+sought_at d None = shut (Refused 48) d
+sought_at d (Some p) = shut (Succeeded (Position p)) (positioned d p)
 
 abbrev pub begin : Device → Call → Begun
 begin d (read buf) = granted d (λ n. Read n (length buf)) (transfer d (length buf))

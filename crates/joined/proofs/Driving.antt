@@ -9,7 +9,7 @@ use Prim.Native.Nat.{ℕ, ◌≤◌}
 use mathlib.Core.Path.{◌≡◌, refl, sym, ap, ◌∙◌}
 use mathlib.Core.Bool.{Bool, true, false}
 use mathlib.Core.List.{List, [], ◌∷◌}
-use mathlib.Core.Option.{Option, none, some}
+use Rattle.std.specs.Prelude.{Option, None, Some}
 use borrow.Author.Tests.{eq-eqb}
 use lib.Dec.{eqb}
 use lib.ListN.{length}
@@ -63,16 +63,16 @@ Made d (shut o d') r = (r.outcome ≡ o) × (view r.state ≡ Ready d')
 
 module _ (c : Client) (d : Device) (ready : view c ≡ Ready d) where
   moving_made : (f : ℕ → request.Call) (o : Option ℕ) → Made d (granted d f o) (moving c f (granted_at d o))
-  moving_made f none = (refl, ready)
-  moving_made f (some n) = go (eqb (amount (f n)) 0)
+  moving_made f None = (refl, ready)
+  moving_made f (Some n) = go (eqb (amount (f n)) 0)
     where
       go : (b : Bool) → Made d (pick b (shut (Succeeded (value_of (f n))) d) (out (f n))) (pick b (answer (Ready d) (Succeeded (value_of (f n)))) (opened d (f n)))
       go true = (refl, refl)
       go false = refl
 
   sought_made : (o : Option ℕ) → Made d (sought_at d o) (sought_to c d o)
-  sought_made none = (refl, ready)
-  sought_made (some p) = (refl, refl)
+  sought_made None = (refl, ready)
+  sought_made (Some p) = (refl, refl)
 
   module _ (fine : in_range c ≡ true) where
     may_on : call_check c ≡ Ok d
@@ -95,16 +95,16 @@ Lends buf (out q) = lent_to q ≡ length buf
 Lends buf (shut o d) = Unit {0}
 
 granted_lends : (d : Device) (f : ℕ → request.Call) (buf : List ℕ) → ((n : ℕ) → lent_to (f n) ≡ length buf) → (o : Option ℕ) → Lends buf (granted d f o)
-granted_lends d f buf h none = tt
-granted_lends d f buf h (some n) = go (eqb (amount (f n)) 0)
+granted_lends d f buf h None = tt
+granted_lends d f buf h (Some n) = go (eqb (amount (f n)) 0)
   where
     go : (b : Bool) → Lends buf (pick b (shut (Succeeded (value_of (f n))) d) (out (f n)))
     go true = tt
     go false = h n
 
 sought_lends : (d : Device) (o : Option ℕ) → Lends [] (sought_at d o)
-sought_lends d none = tt
-sought_lends d (some p) = tt
+sought_lends d None = tt
+sought_lends d (Some p) = tt
 
 lends : (d : Device) (k : Call) → Lends (buffer k) (begin d k)
 lends d (read buf) = granted_lends d (λ n. Read n (length buf)) buf (λ n. refl) (transfer d (length buf))

@@ -5,7 +5,7 @@ use Prim.Native.Nat.{ℕ, zero, suc, ◌+◌}
 use mathlib.Core.Path.{◌≡◌, refl, ◌∙◌}
 use Rattle.machine.specs.Choice.{pick}
 use mathlib.Core.List.{List, [], ◌∷◌, ◌++◌}
-use mathlib.Core.Option.{Option, none, some}
+use Rattle.std.specs.Prelude.{Option, None, Some}
 use native.Mathlib.Omega.{arith}
 use lib.ListN.{length, take, drop, length-append, length-drop}
 use lib.Seq.{length-take-le}
@@ -23,14 +23,14 @@ unfolding request be
 length_request type offset n = refl
 
 -- as many bytes, whatever the call moves
-sent : (k : Disk) (len : ℕ) (f : ℕ → List ℕ) (g : ℕ → ℕ) → ((n : ℕ) → transfer k len ≡ some (suc n) → length (f (suc n)) ≡ g (suc n))
+sent : (k : Disk) (len : ℕ) (f : ℕ → List ℕ) (g : ℕ → ℕ) → ((n : ℕ) → transfer k len ≡ Some (suc n) → length (f (suc n)) ≡ g (suc n))
     → length (if_sent (transfer k len) f) ≡ if_moves (transfer k len) g
 sent k len f g h = go (transfer k len) h
   where
-    go : (o : Option ℕ) → ((n : ℕ) → o ≡ some (suc n) → length (f (suc n)) ≡ g (suc n)) → length (if_sent o f) ≡ if_moves o g
-    go none h = refl
-    go (some zero) h = refl
-    go (some (suc n)) h = h n refl
+    go : (o : Option ℕ) → ((n : ℕ) → o ≡ Some (suc n) → length (f (suc n)) ≡ g (suc n)) → length (if_sent o f) ≡ if_moves o g
+    go None h = refl
+    go (Some zero) h = refl
+    go (Some (suc n)) h = h n refl
 
 pub length_question : (k : Disk) (c : Call) → length (question k c) ≡ up k c
 length_question k (read buf) = sent k (length buf) (asking NBD_CMD_READ k) (λ n. 28) (λ n e. length_request NBD_CMD_READ k.position (suc n))

@@ -3,15 +3,14 @@
 --   up d k, down d k          for one call on the disk d
 --   ups, downs                for a list of calls
 --   up_all, down_all            for the handshake and a list of calls
-use Rattle.std.specs.Prelude.{ℕ, zero, suc, ◌+◌, List, [], ◌∷◌, length}
-use Rattle.std.proofs.Math.Option.{Option, none, some}
+use Rattle.std.specs.Prelude.{ℕ, zero, suc, ◌+◌, List, [], ◌∷◌, length, Option, None, Some}
 use Rattle.joined.specs.Disk.{Disk, Call, read, write, seek, flush, trim, transfer, after}
 
 -- so many bytes where the call moves some, "Otherwise none"
 abbrev pub if_moves : Option ℕ → (ℕ → ℕ) → ℕ
-if_moves none bytes = 0
-if_moves (some zero) bytes = 0
-if_moves (some (suc n)) bytes = bytes (suc n)
+if_moves None bytes = 0
+if_moves (Some zero) bytes = 0
+if_moves (Some (suc n)) bytes = bytes (suc n)
 
 -- "Successful read with n > 0: 28 up, 16 + n down. Write with n > 0, failed ones too: 28 + n up, 16 down. Flush, and trim with n > 0: 28 up, 16 down."
 abbrev pub up : Disk → Call → ℕ

@@ -2,8 +2,7 @@
 --   cases   the list
 -- An answer stands there as a list: `numbered`, with a number, or `without`, with values alone.
 -- The server's and the client's cases run their machines (`run_for`) over the bytes of the case; 0x and small numbers are as 01 has them.
-use Rattle.std.specs.Prelude.{ℕ, ◌^◌, false, List, [], ◌∷◌, ◌++◌, ℤ, negsuc}
-use Rattle.std.proofs.Math.Option.{Option, none, some}
+use Rattle.std.specs.Prelude.{ℕ, ◌^◌, false, List, [], ◌∷◌, ◌++◌, ℤ, negsuc, Option, None, Some}
 use Rattle.machine.specs.Machine.{On, on}
 use Rattle.machine.specs.Run.{Ran, run_for}
 use Rattle.wire.specs.Fields.{be}
@@ -31,8 +30,8 @@ abbrev without : List ℕ → List ℕ
 without values = 0 ∷ values
 
 abbrev answered : Option ℕ → List ℕ → List ℕ
-answered none values = without values
-answered (some n) values = numbered n ++ values
+answered None values = without values
+answered (Some n) values = numbered n ++ values
 
 -- ---- the server, with the table of no records: the bytes that it gives, from a place on; and whether it has ended, and with which number
 abbrev ending : On State → List ℕ

@@ -11,8 +11,7 @@
 --   read_after, write_after, seek_after   the disk after such a call
 --   after d k                 the disk after the call k
 --   results, final            those of a list of calls
-use Rattle.std.specs.Prelude.{ℕ, zero, suc, min, ◌+◌, ◌-◌, ◌^◌, Bool, not, List, [], ◌∷◌, ◌++◌, eqb, ltb, leb, ℤ, pos, negsuc, length, take, drop}
-use Rattle.std.proofs.Math.Option.{Option, none, some}
+use Rattle.std.specs.Prelude.{ℕ, zero, suc, min, ◌+◌, ◌-◌, ◌^◌, Bool, not, List, [], ◌∷◌, ◌++◌, eqb, ltb, leb, ℤ, pos, negsuc, length, take, drop, Option, None, Some}
 use Rattle.machine.specs.Choice.{pick, both}
 use Rattle.wire.specs.Results.{Result}
 
@@ -34,28 +33,28 @@ pub data Call : Type 0 where
   trim : ℕ → Call
 
 abbrev pub succeeds : List ℕ → List ℕ → Result
-succeeds values buf = record { number = none; values = values; buffer = buf }
+succeeds values buf = record { number = None; values = values; buffer = buf }
 
 -- 47, "device error, raw number with it"
 abbrev pub fails : ℕ → List ℕ → Result
-fails error buf = record { number = some 47; values = error ∷ []; buffer = buf }
+fails error buf = record { number = Some 47; values = error ∷ []; buffer = buf }
 
 abbrev pub refused : ℕ → List ℕ → Result
-refused why buf = record { number = some why; values = []; buffer = buf }
+refused why buf = record { number = Some why; values = []; buffer = buf }
 
 -- "position = size gives 0; position > size is refused even for an empty buffer; else n = min(buffer length, size - position, 2^32-1)"
 abbrev pub transfer : Disk → ℕ → Option ℕ
 transfer d k =
-    pick (ltb (length d.bytes) d.position) none (some (min (min k (length d.bytes - d.position)) (2 ^ 32 - 1)))
+    pick (ltb (length d.bytes) d.position) None (Some (min (min k (length d.bytes - d.position)) (2 ^ 32 - 1)))
 
 -- "refused if it leaves 0..2^64-1 or is by -2^63"; `negsuc n` is -(n + 1)
 abbrev pub shifted : ℕ → ℤ → Option ℕ
-shifted p (pos n) = pick (leb (2 ^ 64) (p + n)) none (some (p + n))
-shifted p (negsuc n) = pick (both (leb (suc n) p) (not (eqb (suc n) (2 ^ 63)))) (some (p - suc n)) none
+shifted p (pos n) = pick (leb (2 ^ 64) (p + n)) None (Some (p + n))
+shifted p (negsuc n) = pick (both (leb (suc n) p) (not (eqb (suc n) (2 ^ 63)))) (Some (p - suc n)) None
 
 -- "Seek from the start takes any 64-bit value"
 abbrev pub target : Disk → From → Option ℕ
-target d (from_start p) = some p
+target d (from_start p) = Some p
 target d (from_here z) = shifted d.position z
 target d (from_end z) = shifted (length d.bytes) z
 
@@ -65,24 +64,24 @@ abbrev pub here : Disk → ℕ → List ℕ
 here d n = take n (drop d.position d.bytes)
 
 abbrev pub read_result : Disk → List ℕ → Option ℕ → Result
-read_result d buf none = refused 49 buf
-read_result d buf (some n) = succeeds (n ∷ []) (here d n ++ drop n buf)
+read_result d buf None = refused 49 buf
+read_result d buf (Some n) = succeeds (n ∷ []) (here d n ++ drop n buf)
 
 -- "n = 0 sends nothing and succeeds"; "writes store n or fail 47 with error 1"
 abbrev pub write_result : Disk → List ℕ → Option ℕ → Result
-write_result d buf none = refused 49 buf
-write_result d buf (some zero) = succeeds (0 ∷ []) buf
-write_result d buf (some (suc n)) = pick d.read_only (fails 1 buf) (succeeds (suc n ∷ []) buf)
+write_result d buf None = refused 49 buf
+write_result d buf (Some zero) = succeeds (0 ∷ []) buf
+write_result d buf (Some (suc n)) = pick d.read_only (fails 1 buf) (succeeds (suc n ∷ []) buf)
 
 -- "trims with n > 0 fail 47 with error 38"
 abbrev pub trim_result : Option ℕ → Result
-trim_result none = refused 49 []
-trim_result (some zero) = succeeds [] []
-trim_result (some (suc n)) = fails 38 []
+trim_result None = refused 49 []
+trim_result (Some zero) = succeeds [] []
+trim_result (Some (suc n)) = fails 38 []
 
 abbrev pub seek_result : Option ℕ → Result
-seek_result none = refused 48 []
-seek_result (some p) = succeeds (p ∷ []) []
+seek_result None = refused 48 []
+seek_result (Some p) = succeeds (p ∷ []) []
 
 abbrev pub result : Disk → Call → Result
 result d (read buf) = read_result d buf (transfer d (length buf))
@@ -103,17 +102,17 @@ stored d n buf = record {
 }
 
 abbrev pub read_after : Disk → Option ℕ → Disk
-read_after d none = d
-read_after d (some n) = moved d (d.position + n)
+read_after d None = d
+read_after d (Some n) = moved d (d.position + n)
 
 abbrev pub write_after : Disk → List ℕ → Option ℕ → Disk
-write_after d buf none = d
-write_after d buf (some zero) = d
-write_after d buf (some (suc n)) = pick d.read_only d (stored d (suc n) buf)
+write_after d buf None = d
+write_after d buf (Some zero) = d
+write_after d buf (Some (suc n)) = pick d.read_only d (stored d (suc n) buf)
 
 abbrev pub seek_after : Disk → Option ℕ → Disk
-seek_after d none = d
-seek_after d (some p) = moved d p
+seek_after d None = d
+seek_after d (Some p) = moved d p
 
 abbrev pub after : Disk → Call → Disk
 after d (read buf) = read_after d (transfer d (length buf))

@@ -5,8 +5,7 @@
 --   questions, answers         for a list of calls
 --   said_up, said_down           for the handshake and a list of calls
 -- That they are as many as 01's formula says is `length_up` and `length_down` of proofs/Conversation.antt.
-use Rattle.std.specs.Prelude.{ℕ, zero, suc, true, List, [], ◌∷◌, ◌++◌, length, take}
-use Rattle.std.proofs.Math.Option.{Option, none, some}
+use Rattle.std.specs.Prelude.{ℕ, zero, suc, true, List, [], ◌∷◌, ◌++◌, length, take, Option, None, Some}
 use Rattle.machine.specs.Choice.{pick}
 use Rattle.wire.specs.Constants.{NBD_CMD_READ, NBD_CMD_WRITE, NBD_CMD_FLUSH, NBD_CMD_TRIM}
 use Rattle.wire.specs.Layouts.{greeting, export_reply, export_name, request, simple_reply}
@@ -15,9 +14,9 @@ use Rattle.joined.specs.Disk.{Disk, Call, read, write, seek, flush, trim, transf
 
 -- bytes where the call moves some; else nothing is sent
 abbrev pub if_sent : Option ℕ → (ℕ → List ℕ) → List ℕ
-if_sent none bytes = []
-if_sent (some zero) bytes = []
-if_sent (some (suc n)) bytes = bytes (suc n)
+if_sent None bytes = []
+if_sent (Some zero) bytes = []
+if_sent (Some (suc n)) bytes = bytes (suc n)
 
 -- a request for n bytes from the position on; its flags and its handle are 0
 abbrev pub asking : ℕ → Disk → ℕ → List ℕ

@@ -1,8 +1,7 @@
 -- What a lookup finds.
 --   found rs name     the export of that name
 --   changed rs ss     the name "ab" is begun, and its "a" taken, under the records rs; its "b" is taken under ss
-use Rattle.std.specs.Prelude.{ℕ, List, [], ◌∷◌, length}
-use Rattle.std.proofs.Math.Option.{Option}
+use Rattle.std.specs.Prelude.{ℕ, List, [], ◌∷◌, length, Option}
 use Rattle.wire.specs.Table.{Record}
 use Rattle.wire.specs.Lookup.{started, narrowed_by, chosen}
 

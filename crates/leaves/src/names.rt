@@ -1,22 +1,20 @@
 // Names, looked up in a table: each whole, then a byte at a time; and with a table that changes inside the name.
 ghost use Rattle.std.specs.Prelude.{◌≡◌};
 ghost use Rattle.wire.specs.Table.{records};
-ghost use Rattle.wire.specs.Lookup.{chosen_of};
 ghost use Rattle.leaves.specs.Names.{found, changed};
 
 use crate::say;
-use wire::lookup::Chosen;
 use wire::{lookup, table};
 
-fn whole(t: &[u8], name: &[u8]) -> Chosen
-    ensures { chosen_of result ≡ found (records t.now) name.now }
+fn whole(t: &[u8], name: &[u8]) -> Option<usize>
+    ensures { result ≡ found (records t.now) name.now }
 {
     let set = lookup::started(t, name.len());
     lookup::lowest(lookup::narrowed(set, t, 0, name))
 }
 
-fn singly(t: &[u8], name: &[u8]) -> Chosen
-    ensures { chosen_of result ≡ found (records t.now) name.now }
+fn singly(t: &[u8], name: &[u8]) -> Option<usize>
+    ensures { result ≡ found (records t.now) name.now }
 {
     let mut set = lookup::started(t, name.len());
     let mut i = 0;
@@ -29,22 +27,22 @@ fn singly(t: &[u8], name: &[u8]) -> Chosen
 }
 
 // The name "ab": begun, and its first byte taken, with the table t; its second byte taken with u.
-fn in_both(t: &[u8], u: &[u8]) -> Chosen
-    ensures { chosen_of result ≡ changed (records t.now) (records u.now) }
+fn in_both(t: &[u8], u: &[u8]) -> Option<usize>
+    ensures { result ≡ changed (records t.now) (records u.now) }
 {
     let a = lookup::narrowed(lookup::started(t, 2), t, 0, b"a");
     lookup::lowest(lookup::narrowed(a, u, 1, b"b"))
 }
 
 // An export's number, and the start of its window in the table t.
-fn shown(x: Chosen, t: &[u8]) {
+fn shown(x: Option<usize>, t: &[u8]) {
     match x {
-        Chosen::Export(k) => {
+        Some(k) => {
             let e = table::export_at(t, k);
             say::number(k as u64);
             say::number(e.start);
         }
-        Chosen::Nothing => say::text(b" none"),
+        None => say::text(b" none"),
     }
 }
 

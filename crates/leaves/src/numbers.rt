@@ -3,7 +3,6 @@ ghost use Rattle.std.specs.Prelude.{◌≡◌, ◌+◌, ◌≤◌};
 ghost use Rattle.wire.specs.Fields.{field};
 
 use crate::say;
-use wire::number::Added;
 use wire::{fields, number};
 
 // ---- fields
@@ -93,9 +92,8 @@ pub fn clamp(x: u64) {
 // ---- checked_add_i64
 
 pub fn add(x: u64, y: u64) {
-    let a = number::checked_add_i64(x, number::signed(y));
-    match a {
-        Added::Sum(n) => say::number(n),
-        Added::Outside => say::text(b" refused"),
+    match number::checked_add_i64(x, number::signed(y)) {
+        Some(n) => say::number(n),
+        None => say::text(b" refused"),
     }
 }

@@ -8,7 +8,7 @@ use mathlib.Core.Path.{◌≡◌, refl}
 use mathlib.Core.Bool.{Bool, true, false}
 use mathlib.Core.Logic.{◌⊎◌, inl, inr}
 use mathlib.Core.List.{List, ◌++◌, append-nil}
-use mathlib.Core.Option.{Option, none, some}
+use Rattle.std.specs.Prelude.{Option, None, Some}
 use native.Mathlib.Omega.{arith}
 use borrow.Author.Tests.{ne_eqb}
 use lib.Dec.{eqb, ltb}
@@ -44,11 +44,11 @@ same_len d k =
     let e : min (clamped k) (clamped (d.size - d.position)) ≡ clamped (min k (d.size - d.position)) = omega arith in
     rw (same_clamp k, same_clamp (d.size - d.position), e)
 
-at_most : (d : Device) (k n : ℕ) → transfer d k ≡ some n → n ≤ k
+at_most : (d : Device) (k n : ℕ) → transfer d k ≡ Some n → n ≤ k
 unfolding transfer
 at_most d k n h = go (eqb d.position d.size) (ltb d.size d.position) h
   where
-    go : (a b : Bool) → pick a (some 0) (pick b none (some (clamped (min k (d.size - d.position))))) ≡ some n → n ≤ k
+    go : (a b : Bool) → pick a (Some 0) (pick b None (Some (clamped (min k (d.size - d.position))))) ≡ Some n → n ≤ k
     go true b e = let z : 0 ≡ n = cc in omega arith
     go false true e = absurd (let z : ◌≡◌ {A = ℕ} 0 1 = cc in omega arith)
     go false false e = let z : clamped (min k (d.size - d.position)) ≡ n = cc in omega arith
@@ -87,9 +87,9 @@ module _ (d : Device) (input : List ℕ) where
   Agrees k r = AtOnce d k input r ⊎ GoesOut d k input r
 
   made_read : (buf : List ℕ) (o : Option ℕ) → transfer d (length buf) ≡ o → Agrees (read buf) (read_some (client_of d) buf input o)
-  made_read buf none e = inl record { outcome = Refused 49; device = d; answers = rw e; prompt = tt; same = refl }
-  made_read buf (some zero) e = inl record { outcome = Succeeded (value_of (Read 0 (length buf))); device = d; answers = rw e; prompt = tt; same = refl }
-  made_read buf (some (suc n)) e =
+  made_read buf None e = inl record { outcome = Refused 49; device = d; answers = rw e; prompt = tt; same = refl }
+  made_read buf (Some zero) e = inl record { outcome = Succeeded (value_of (Read 0 (length buf))); device = d; answers = rw e; prompt = tt; same = refl }
+  made_read buf (Some (suc n)) e =
       let c = Read (suc n) (length buf) in
       inr record {
         call = c;
@@ -114,20 +114,20 @@ module _ (d : Device) (input : List ℕ) where
   }
 
   made_write : (buf : List ℕ) (o : Option ℕ) → transfer d (length buf) ≡ o → Agrees (write buf) (write_some (client_of d) buf input o)
-  made_write buf none e = inl record { outcome = Refused 49; device = d; answers = rw e; prompt = tt; same = refl }
-  made_write buf (some zero) e = inl record { outcome = Succeeded (value_of (Write 0 (length buf))); device = d; answers = rw e; prompt = tt; same = refl }
-  made_write buf (some (suc n)) e =
-      goes_out (write buf) (Write (suc n) (length buf)) (write_some (client_of d) buf input (some (suc n))) (rw (e, ne_eqb (suc n) 0 (λ z. omega arith))) (at_most d (length buf) (suc n) e) refl refl (rw (same_request NBD_CMD_WRITE d.position (suc n)))
+  made_write buf None e = inl record { outcome = Refused 49; device = d; answers = rw e; prompt = tt; same = refl }
+  made_write buf (Some zero) e = inl record { outcome = Succeeded (value_of (Write 0 (length buf))); device = d; answers = rw e; prompt = tt; same = refl }
+  made_write buf (Some (suc n)) e =
+      goes_out (write buf) (Write (suc n) (length buf)) (write_some (client_of d) buf input (Some (suc n))) (rw (e, ne_eqb (suc n) 0 (λ z. omega arith))) (at_most d (length buf) (suc n) e) refl refl (rw (same_request NBD_CMD_WRITE d.position (suc n)))
 
   made_trim : (len : ℕ) (o : Option ℕ) → transfer d len ≡ o → Agrees (trim len) (trim_some (client_of d) input o)
-  made_trim len none e = inl record { outcome = Refused 49; device = d; answers = rw e; prompt = tt; same = refl }
-  made_trim len (some zero) e = inl record { outcome = Succeeded (value_of (Trim 0)); device = d; answers = rw e; prompt = tt; same = refl }
-  made_trim len (some (suc n)) e =
-      goes_out (trim len) (Trim (suc n)) (trim_some (client_of d) input (some (suc n))) (rw (e, ne_eqb (suc n) 0 (λ z. omega arith))) (omega arith) refl refl (rw (same_request NBD_CMD_TRIM d.position (suc n), append-nil))
+  made_trim len None e = inl record { outcome = Refused 49; device = d; answers = rw e; prompt = tt; same = refl }
+  made_trim len (Some zero) e = inl record { outcome = Succeeded (value_of (Trim 0)); device = d; answers = rw e; prompt = tt; same = refl }
+  made_trim len (Some (suc n)) e =
+      goes_out (trim len) (Trim (suc n)) (trim_some (client_of d) input (Some (suc n))) (rw (e, ne_eqb (suc n) 0 (λ z. omega arith))) (omega arith) refl refl (rw (same_request NBD_CMD_TRIM d.position (suc n), append-nil))
 
   made_seek : (f : SeekFrom) (o : Option ℕ) → sought d f ≡ o → Agrees (seek f) (seek_to (client_of d) input o)
-  made_seek f none e = inl record { outcome = Refused 48; device = d; answers = rw e; prompt = tt; same = refl }
-  made_seek f (some p) e = inl record { outcome = Succeeded (Position p); device = positioned d p; answers = rw e; prompt = tt; same = refl }
+  made_seek f None e = inl record { outcome = Refused 48; device = d; answers = rw e; prompt = tt; same = refl }
+  made_seek f (Some p) e = inl record { outcome = Succeeded (Position p); device = positioned d p; answers = rw e; prompt = tt; same = refl }
 
   same_target : (f : SeekFrom) → target (client_of d) f ≡ sought d f
   same_target (Start p) = refl

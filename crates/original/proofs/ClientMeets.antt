@@ -7,7 +7,7 @@
 use Prim.Native.Nat.{ℕ, ◌<◌}
 use mathlib.Core.Path.{◌≡◌, refl}
 use mathlib.Core.List.{List, [], ◌∷◌, ◌++◌}
-use mathlib.Core.Option.{Option, none, some}
+use Rattle.std.specs.Prelude.{Option, None, Some}
 use native.Mathlib.Omega.{arith}
 use lib.ListN.{length}
 use Rattle.machine.specs.Machine.{On, on, takes, Moves, still}
@@ -25,33 +25,33 @@ abbrev pub client_of : Device → NbdClient
 client_of d = record { size = d.size; position = d.position }
 
 abbrev pub closed_answer : Outcome → Device → Option Answer
-closed_answer Open d = none
-closed_answer (Succeeded v) d = some (ok (values_in v) (client_of d))
-closed_answer (Failed error) d = some (failed error (client_of d))
-closed_answer (Ended n) d = none
-closed_answer (Refused n) d = none
+closed_answer Open d = None
+closed_answer (Succeeded v) d = Some (ok (values_in v) (client_of d))
+closed_answer (Failed error) d = Some (failed error (client_of d))
+closed_answer (Ended n) d = None
+closed_answer (Refused n) d = None
 
 abbrev pub answer_of : State → Option Answer
-answer_of Blank = some (fault 50)
-answer_of (Shaking n p) = some (fault 50)
-answer_of (Ready d) = some (fault 50)
-answer_of (Calling d c p) = some (fault 50)
+answer_of Blank = Some (fault 50)
+answer_of (Shaking n p) = Some (fault 50)
+answer_of (Ready d) = Some (fault 50)
+answer_of (Calling d c p) = Some (fault 50)
 answer_of (Closed o d) = closed_answer o d
-answer_of (Over n) = some (fault n)
+answer_of (Over n) = Some (fault n)
 
 abbrev pub Meets : On State → List ℕ → Done → Type 0
-Meets x input r = Reaches turn answer_of x input r.left r.sent r.buffer (some r.answer)
+Meets x input r = Reaches turn answer_of x input r.left r.sent r.buffer (Some r.answer)
 
 pub meets_closed : {is input left m : List ℕ} {x : On State} (o : Outcome) (d : Device) → Moves turn x is [] (on (Closed o d) m) → input ≡ is ++ left
     → Reaches turn answer_of x input left [] m (closed_answer o d)
 meets_closed o d p e = reaches_rest (Closed o d) refl p e
 
 pub meets_over : {is input left m : List ℕ} {x : On State} {n : ℕ} → Moves turn x is [] (on (Over n) m) → input ≡ is ++ left
-    → Reaches turn answer_of x input left [] m (some (fault n))
+    → Reaches turn answer_of x input left [] m (Some (fault n))
 meets_over {n = n} p e = reaches_rest (Over n) refl p e
 
-pub meets_cut : {input m : List ℕ} {x : On State} {y : State} {k : ℕ → On State} → Moves turn x input [] (on y m) → turn (on y m) ≡ takes k → answer_of y ≡ some (fault 50)
-    → Reaches turn answer_of x input [] [] m (some (fault 50))
+pub meets_cut : {input m : List ℕ} {x : On State} {y : State} {k : ℕ → On State} → Moves turn x input [] (on y m) → turn (on y m) ≡ takes k → answer_of y ≡ Some (fault 50)
+    → Reaches turn answer_of x input [] [] m (Some (fault 50))
 meets_cut {y = y} p e n = reaches_cut y p e n
 
 pub part_run : (wait judge : List ℕ → State) (to : ℕ) → ((h : List ℕ) → length h < to → judge h ≡ wait h) → (h m : List ℕ) → Gathers turn wait judge m → length h < to

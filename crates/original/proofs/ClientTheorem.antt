@@ -11,7 +11,7 @@ use mathlib.Core.Path.{◌≡◌, refl, ap}
 use mathlib.Core.Bool.{true, false}
 use mathlib.Core.Logic.{◌⊎◌, inl, inr}
 use mathlib.Core.List.{List, [], ◌∷◌}
-use mathlib.Core.Option.{some}
+use Rattle.std.specs.Prelude.{Some}
 use native.Mathlib.Omega.{arith}
 use borrow.Author.Tests.{le-leb}
 use lib.ListN.{length}
@@ -43,7 +43,7 @@ driven_reached (again n d fine still p) h = driven_reached p (by_step h d)
 
 -- ---- an open call or handshake, stepped until nothing more moves
 abbrev pub Agreed : Done → List ℕ → State → List ℕ → List ℕ → Type 0
-Agreed r given x m rest = Agrees answer_of r.left r.sent r.buffer (some r.answer) given x m rest
+Agreed r given x m rest = Agrees answer_of r.left r.sent r.buffer (Some r.answer) given x m rest
 
 pub agreed : {x₀ x : State} {m input given m' rest : List ℕ} (r : Done) → Meets (on x₀ m) input r → Stepped (code x₀) m input given x m' rest → Agreed r given x m' rest
 agreed {x₀} r meets s = one_end meets (rw (viewed x₀) at (driven_session s.driven)) s.finished
@@ -53,11 +53,11 @@ pub record Closes (x : State) : Type 0 where
   pub device : Device
   pub ready : after x ≡ Ready device
   pub answer : Answer
-  pub same_answer : answer_of x ≡ some answer
+  pub same_answer : answer_of x ≡ Some answer
   pub same_result : (m : List ℕ) → told (outcome_of x) m ≡ result_of answer m
   pub goes_on : (left : List ℕ) (more : NbdClient → List ℕ → Told) → onward answer left more ≡ more (client_of device) left
 
-pub closing_at : (x : State) (a : Answer) → is_closed x ≡ true → answer_of x ≡ some a → Closes x
+pub closing_at : (x : State) (a : Answer) → is_closed x ≡ true → answer_of x ≡ Some a → Closes x
 closing_at Blank a e h = absurd (let z : ◌≡◌ {A = ℕ} 0 1 = cc in omega arith)
 closing_at (Shaking n p) a e h = absurd (let z : ◌≡◌ {A = ℕ} 0 1 = cc in omega arith)
 closing_at (Ready d) a e h = absurd (let z : ◌≡◌ {A = ℕ} 0 1 = cc in omega arith)
@@ -73,7 +73,7 @@ closing_at (Over n) a e h = absurd (let z : ◌≡◌ {A = ℕ} 0 1 = cc in omeg
 record Ends (x : State) : Type 0 where
   number : ℕ
   reported : (end_of_input (code (after x))).outcome ≡ Ended number
-  same_answer : answer_of x ≡ some (fault number)
+  same_answer : answer_of x ≡ Some (fault number)
 
 ending_at : (x : State) → is_closed x ≡ false → in_range (code (after x)) ≡ true → Ends x
 ending_at Blank e h = record { number = 50; reported = refl; same_answer = refl }

@@ -8,7 +8,7 @@ use mathlib.Core.Path.{◌≡◌, refl, sym, ap, subst, ◌∙◌}
 use mathlib.Core.Bool.{Bool, true, false}
 use mathlib.Core.Logic.{◌⊎◌, inl, inr}
 use mathlib.Core.List.{List, [], ◌∷◌}
-use mathlib.Core.Option.{some}
+use Rattle.std.specs.Prelude.{Some}
 use native.Mathlib.Omega.{arith}
 use borrow.Author.Tests.{eq-eqb}
 use lib.ListN.{length, take, drop, replicate, length-append, length-replicate, drop_of_length-le}
@@ -103,7 +103,7 @@ abbrev There : List Call → Type 0
 There ks = (d : Device) → Reached (code (Ready d)) → (input : List ℕ) → (t : Told) × Hosted (code (Ready d)) ks input t
 
 -- from where an open call or the handshake stands in the end
-further : (ks : List Call) → There ks → (x : State) (a : Answer) → answer_of x ≡ some a → Reached (code (after x)) → (rest : List ℕ)
+further : (ks : List Call) → There ks → (x : State) (a : Answer) → answer_of x ≡ Some a → Reached (code (after x)) → (rest : List ℕ)
     → ((is_closed x ≡ true) × (t : Told) × Hosted (code (after x)) ks rest t) ⊎ (is_closed x ≡ false)
 further ks more x a e h rest = go (is_closed x) refl
   where

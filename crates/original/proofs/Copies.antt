@@ -6,7 +6,7 @@ use Prim.Native.Nat.{ℕ, zero, suc, min, ◌+◌, ◌-◌, ◌≤◌, ◌<◌}
 use mathlib.Core.Path.{◌≡◌, refl, sym, ap, ◌∙◌}
 use mathlib.Core.Bool.{Bool, true, false}
 use mathlib.Core.List.{List, [], ◌∷◌, ◌++◌, append_assoc, append-nil}
-use mathlib.Core.Option.{some}
+use Rattle.std.specs.Prelude.{Some}
 use native.Mathlib.Omega.{arith}
 use borrow.Author.Tests.{eqb-true, eqb-false, le-ltb}
 use lib.Dec.{eqb}
@@ -26,14 +26,14 @@ module _ {D : Type 0} (write : D → List ℕ → Written D) where
   -- a part that is read and written
   part_done : (first : D → D) (bytes from : List ℕ) (to next : D) (limit count : ℕ) (more : List ℕ → D → ℕ → ℕ → Copied D) → 0 < length bytes → write (first to) bytes ≡ all next
       → part write first bytes from to limit count more
-      ≡ pick (eqb (limit - length bytes) 0) (copied from next (some (count + length bytes))) (more from next (limit - length bytes) (count + length bytes))
+      ≡ pick (eqb (limit - length bytes) 0) (copied from next (Some (count + length bytes))) (more from next (limit - length bytes) (count + length bytes))
   part_done first [] from to next limit count more h e = absurd (omega arith)
   part_done first (b ∷ bytes) from to next limit count more h e = rw e
 
   -- f bytes: the writer once these bytes were written
   pub copies : (k limit count : ℕ) (first : D → D) (from : List ℕ) (to : D) (f : List ℕ → D) → limit ≤ k → 0 < limit → limit ≤ length from → first to ≡ f []
       → ((a b : List ℕ) → length a + length b ≤ limit → write (f a) b ≡ all (f (a ++ b)))
-      → turns write k first from to limit count ≡ copied (drop limit from) (f (take limit from)) (some (count + limit))
+      → turns write k first from to limit count ≡ copied (drop limit from) (f (take limit from)) (Some (count + limit))
   unfolding turns
   copies zero limit count first from to f h more-than-0 enough start each = absurd (omega arith)
   copies (suc k) limit count first from to f h more-than-0 enough start each =
@@ -48,9 +48,9 @@ module _ {D : Type 0} (write : D → List ℕ → Written D) where
     where
       go : (n : ℕ) (p : List ℕ) → length p ≡ n → n ≤ limit → p ≡ take n from → (b : Bool) → eqb (limit - length p) 0 ≡ b
           → (0 < limit - length p → turns write k (λ same. same) (drop n from) (f p) (limit - length p) (count + length p)
-          ≡ copied (drop (limit - length p) (drop n from)) (f (p ++ take (limit - length p) (drop n from))) (some (count + length p + (limit - length p))))
-          → pick b (copied (drop n from) (f p) (some (count + length p))) (turns write k (λ same. same) (drop n from) (f p) (limit - length p) (count + length p))
-          ≡ copied (drop limit from) (f (take limit from)) (some (count + limit))
+          ≡ copied (drop (limit - length p) (drop n from)) (f (p ++ take (limit - length p) (drop n from))) (Some (count + length p + (limit - length p))))
+          → pick b (copied (drop n from) (f p) (Some (count + length p))) (turns write k (λ same. same) (drop n from) (f p) (limit - length p) (count + length p))
+          ≡ copied (drop limit from) (f (take limit from)) (Some (count + limit))
       go n p l h t true e rest =
           let z = eqb-true (limit - length p) 0 e in
           let q : n ≡ limit = omega arith in
@@ -66,7 +66,7 @@ module _ {D : Type 0} (write : D → List ℕ → Written D) where
 module _ (handle offset len : ℕ) (more-than-0 : 0 < len) where
   pub copied_read : (device : List ℕ) → offset + len ≤ length device
       → mycopy to_wire (λ sent. sent ++ replyt 0 handle) (drop offset device) [] len
-      ≡ copied (drop len (drop offset device)) (replyt 0 handle ++ take len (drop offset device)) (some len)
+      ≡ copied (drop len (drop offset device)) (replyt 0 handle ++ take len (drop offset device)) (Some len)
   copied_read device fits =
       let z : 0 + len ≡ len = omega arith in
       rw z at (copies to_wire len len 0 (λ sent. sent ++ replyt 0 handle) (drop offset device) [] (λ a. replyt 0 handle ++ a) (omega arith) more-than-0
@@ -78,7 +78,7 @@ module _ (handle offset len : ℕ) (more-than-0 : 0 < len) where
 
   pub copied_write : (device left : List ℕ) → offset + len ≤ length device → len ≤ length left
       → mycopy write_all (λ same. same) left (record { bytes = device; position = offset }) len
-      ≡ copied (drop len left) (record { bytes = sets device offset (take len left); position = offset + len }) (some len)
+      ≡ copied (drop len left) (record { bytes = sets device offset (take len left); position = offset + len }) (Some len)
   unfolding write_all
   copied_write device left fits there =
       let z : 0 + len ≡ len = omega arith in

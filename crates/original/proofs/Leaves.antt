@@ -9,7 +9,7 @@ use Prim.Native.Nat.{ℕ, suc, ◌+◌, ◌*◌, ◌/◌, ◌%◌, ◌^◌, ◌-
 use mathlib.Core.Path.{◌≡◌, refl, ap}
 use mathlib.Core.Bool.{Bool, true, false, not}
 use mathlib.Core.List.{List, [], ◌∷◌, ◌++◌}
-use mathlib.Core.Option.{Option, none, some}
+use Rattle.std.specs.Prelude.{Option, None, Some}
 use native.Mathlib.Nat.{one-le-pow, zero-mul}
 use native.Mathlib.Omega.{arith}
 use borrow.Author.Tests.{eqb-true, eqb-false, ne_eqb, ltb-true, ltb-false, lt-ltb, le-ltb, le-leb, lt-leb}
@@ -80,11 +80,11 @@ has_bit flags k = rw (and_high flags 1 k) (go (bit k flags) refl)
     digit : ℕ
     digit = flags / 2 ^ k % 2
 
-    some : 0 < 2 ^ k
-    some = one-le-pow k 2 (omega arith)
+    Some : 0 < 2 ^ k
+    Some = one-le-pow k 2 (omega arith)
 
     go : (b : Bool) → eqb digit 1 ≡ b → not (eqb (digit * 2 ^ k) 0) ≡ b
-    go true e = rw (eqb-true digit 1 e, ne_eqb (1 * 2 ^ k) 0 (λ z. omega (arith, some)))
+    go true e = rw (eqb-true digit 1 e, ne_eqb (1 * 2 ^ k) 0 (λ z. omega (arith, Some)))
     go false e =
         let n = eqb-false digit 1 e in
         let z : digit ≡ 0 = omega arith in
@@ -122,12 +122,12 @@ same_readonly flags = has_bit flags 0
 pub same_sum : (a : ℕ) (z : ℤ) → checked_add_i64 a z ≡ added a z
 unfolding checked_add_i64 added
 same_sum a (pos n) =
-    picked (λ (o : Option ℕ). o ≡ pick (ltb (a + n) (2 ^ 64)) (some (a + n)) none) (ltb (2 ^ 64 - 1) (a + n))
+    picked (λ (o : Option ℕ). o ≡ pick (ltb (a + n) (2 ^ 64)) (Some (a + n)) None) (ltb (2 ^ 64 - 1) (a + n))
     (λ h. let p = ltb-true (2 ^ 64 - 1) (a + n) h in rw (le-ltb (a + n) (2 ^ 64) (omega arith)))
     (λ h. let p = ltb-false (2 ^ 64 - 1) (a + n) h in rw (lt-ltb (a + n) (2 ^ 64) (omega arith)))
 same_sum a (negsuc n) = go (eqb (suc n) (2 ^ 63)) (ltb a (suc n)) refl
   where
-    go : (b c : Bool) → ltb a (suc n) ≡ c → take_away a (pick b none (some (suc n))) ≡ pick b none (pick (leb (suc n) a) (some (a - suc n)) none)
+    go : (b c : Bool) → ltb a (suc n) ≡ c → take_away a (pick b None (Some (suc n))) ≡ pick b None (pick (leb (suc n) a) (Some (a - suc n)) None)
     go true c e = refl
     go false true e = let p = ltb-true a (suc n) e in rw (e, lt-leb (suc n) a (omega arith))
     go false false e = let p = ltb-false a (suc n) e in rw (e, le-leb (suc n) a (omega arith))

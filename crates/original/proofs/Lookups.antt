@@ -5,7 +5,7 @@ use Prim.Native.Nat.{ℕ, zero, suc, ◌<◌}
 use mathlib.Core.Path.{◌≡◌, refl}
 use mathlib.Core.Bool.{Bool, true, false}
 use mathlib.Core.List.{List, [], ◌∷◌}
-use mathlib.Core.Option.{none, some}
+use Rattle.std.specs.Prelude.{None, Some}
 use native.Mathlib.Omega.{arith}
 use lib.ListN.{get_or}
 use Rattle.machine.specs.Choice.{pick}
@@ -25,12 +25,12 @@ not_first r rs name e n =
 behind : {r : Record} {rs : List Record} {name : List ℕ} {k : ℕ} → Named (r ∷ rs) (suc k) name → Named rs k name
 behind n = let l = n.listed in record { listed = omega arith; named = n.named }
 
-pub lookup_some : (rs : List Record) (name : List ℕ) (e : Export) → lookup rs name ≡ some e → (k : ℕ) × First rs name k × (export_of (get_or rs k no_record) ≡ e)
+pub lookup_some : (rs : List Record) (name : List ℕ) (e : Export) → lookup rs name ≡ Some e → (k : ℕ) × First rs name k × (export_of (get_or rs k no_record) ≡ e)
 lookup_some [] name e h = absurd (let z : ◌≡◌ {A = ℕ} 0 1 = cc in omega arith)
 lookup_some (r ∷ rs) name e h = go (same_bytes r.name name) refl h (lookup_some rs name e)
   where
-    go : (b : Bool) → same_bytes r.name name ≡ b → pick b (some (export_of r)) (lookup rs name) ≡ some e
-        → (lookup rs name ≡ some e → (k : ℕ) × First rs name k × (export_of (get_or rs k no_record) ≡ e))
+    go : (b : Bool) → same_bytes r.name name ≡ b → pick b (Some (export_of r)) (lookup rs name) ≡ Some e
+        → (lookup rs name ≡ Some e → (k : ℕ) × First rs name k × (export_of (get_or rs k no_record) ≡ e))
         → (k : ℕ) × First (r ∷ rs) name k × (export_of (get_or (r ∷ rs) k no_record) ≡ e)
     go true q h more = (0, record { fits = record { listed = omega arith; named = same_bytes_eq r.name name q }; before = λ j l. absurd (omega arith) }, cc)
     go false q h more =
@@ -42,12 +42,12 @@ lookup_some (r ∷ rs) name e h = go (same_bytes r.name name) refl h (lookup_som
         before q k more zero h n = not_first r rs name q n
         before q k more (suc j) h n = more j (omega arith) (behind n)
 
-pub lookup_none : (rs : List Record) (name : List ℕ) → lookup rs name ≡ none → (k : ℕ) → Named rs k name → ⊥
+pub lookup_none : (rs : List Record) (name : List ℕ) → lookup rs name ≡ None → (k : ℕ) → Named rs k name → ⊥
 lookup_none [] name h k n = let l = n.listed in omega arith
 lookup_none (r ∷ rs) name h k n = go (same_bytes r.name name) refl h (lookup_none rs name) k n
   where
-    go : (b : Bool) → same_bytes r.name name ≡ b → pick b (some (export_of r)) (lookup rs name) ≡ none
-        → (lookup rs name ≡ none → (k : ℕ) → Named rs k name → ⊥) → (k : ℕ) → Named (r ∷ rs) k name → ⊥
+    go : (b : Bool) → same_bytes r.name name ≡ b → pick b (Some (export_of r)) (lookup rs name) ≡ None
+        → (lookup rs name ≡ None → (k : ℕ) → Named rs k name → ⊥) → (k : ℕ) → Named (r ∷ rs) k name → ⊥
     go true q h more k n = let z : ◌≡◌ {A = ℕ} 0 1 = cc in omega arith
     go false q h more zero n = not_first r rs name q n
     go false q h more (suc k) n = more h k (behind n)

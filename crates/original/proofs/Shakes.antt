@@ -8,7 +8,7 @@ use mathlib.Core.Path.{◌≡◌, refl, sym, ap, ◌∙◌}
 use mathlib.Core.Bool.{Bool, true, false, not}
 use mathlib.Core.Logic.{inl, inr}
 use mathlib.Core.List.{List, [], ◌∷◌, ◌++◌, append_assoc, append-nil}
-use mathlib.Core.Option.{Option, none, some}
+use Rattle.std.specs.Prelude.{Option, None, Some}
 use native.Mathlib.Omega.{arith}
 use borrow.Author.Tests.{not-true, not-false, eqb-true, eqb-false, ltb-true, ltb-false, leb-true, leb-false}
 use lib.Dec.{eqb, ltb, leb}
@@ -108,8 +108,8 @@ module _ (t m : List ℕ) where
           (picked (Shakes ready (asks 1)) (valid opt) (λ text. go text (lookup (records t) opt) refl) (λ text. over (whole_export_not_text t m (zeroes flags) opt short text) refl))
         where
           go : valid opt ≡ true → (o : Option Export) → lookup (records t) opt ≡ o → Shakes ready (asks 1) (found flags left o)
-          go text none q = over (whole_export_unknown t m (zeroes flags) opt short text (lookup_none (records t) opt q)) refl
-          go text (some e) q =
+          go text None q = over (whole_export_unknown t m (zeroes flags) opt short text (lookup_none (records t) opt q)) refl
+          go text (Some e) q =
               let w = lookup_some (records t) opt e q in
               let size : ℕ = (export_at t w.0).size in
               let table-flags : ℕ = (export_at t w.0).flags in

@@ -5,7 +5,7 @@ use mathlib.Core.Path.{◌≡◌, refl}
 use mathlib.Core.Bool.{Bool, true, false}
 use mathlib.Core.Logic.Dec
 use mathlib.Core.List.{List, [], ◌∷◌}
-use mathlib.Core.Option.{Option, none, some}
+use Rattle.std.specs.Prelude.{Option, None, Some}
 use native.Mathlib.Decide.{dec_le}
 use native.Mathlib.Omega.{arith}
 use Rattle.machine.specs.Choice.{pick, both, between}
@@ -19,15 +19,15 @@ use Rattle.original.specs.Leaves.{tail, behind, begins, octets, from_utf8}
 
 -- the bytes that a state of the automaton waits for
 abbrev pending : Utf8 → Option (List (ℕ → Bool))
-pending Start = some []
-pending Tail1 = some (tail ∷ [])
-pending Tail2 = some (tail ∷ tail ∷ [])
-pending Tail3 = some (tail ∷ tail ∷ tail ∷ [])
-pending AfterE0 = some (between 0xA0 0xBF ∷ tail ∷ [])
-pending AfterED = some (between 0x80 0x9F ∷ tail ∷ [])
-pending AfterF0 = some (between 0x90 0xBF ∷ tail ∷ tail ∷ [])
-pending AfterF4 = some (between 0x80 0x8F ∷ tail ∷ tail ∷ [])
-pending Bad = none
+pending Start = Some []
+pending Tail1 = Some (tail ∷ [])
+pending Tail2 = Some (tail ∷ tail ∷ [])
+pending Tail3 = Some (tail ∷ tail ∷ tail ∷ [])
+pending AfterE0 = Some (between 0xA0 0xBF ∷ tail ∷ [])
+pending AfterED = Some (between 0x80 0x9F ∷ tail ∷ [])
+pending AfterF0 = Some (between 0x90 0xBF ∷ tail ∷ tail ∷ [])
+pending AfterF4 = Some (between 0x80 0x8F ∷ tail ∷ tail ∷ [])
+pending Bad = None
 
 -- ---- a first byte
 ranged : {A : Type 0} (P : A → Type 0) (lo hi b : ℕ) {x y : A} → (In lo hi b → P x) → ((lo ≤ b → hi < b) → P y) → P (pick (between lo hi b) x y)

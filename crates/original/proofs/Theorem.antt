@@ -10,7 +10,7 @@ use Prim.Native.Nat.{ℕ, suc, ◌+◌, ◌-◌, ◌≤◌}
 use mathlib.Core.Path.{◌≡◌, refl, sym, ap, ◌∙◌}
 use mathlib.Core.Bool.{true, false}
 use mathlib.Core.List.{List, ◌++◌}
-use mathlib.Core.Option.{none}
+use Rattle.std.specs.Prelude.{None}
 use native.Mathlib.Omega.{arith}
 use borrow.Author.Tests.{le-ltb}
 use lib.ListN.{length, take, drop, length-append}
@@ -131,7 +131,7 @@ unfolding oldstyle_header be
 length_header size flags = refl
 
 pub header_same : {room room' : List ℕ} {size flags : ℕ} {r : HeaderAnswer} → Heads room size flags r room' → 152 ≤ length room
-    → (header_of r ≡ none) × (take 152 room' ≡ oldstyle_header size flags) × (drop 152 room' ≡ drop 152 room)
+    → (header_of r ≡ None) × (take 152 room' ≡ oldstyle_header size flags) × (drop 152 room' ≡ drop 152 room)
 header_same {room} {room'} {size} {flags} p h =
     let enough = le-ltb (length room) 152 h in
     let bytes : List ℕ = oldstyle_header size flags in

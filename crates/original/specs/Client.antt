@@ -14,8 +14,7 @@
 --   zeroes             the last of the handshake: the 124 bytes, and the client that is made
 --   newstyle, oldstyle   the rest of the handshake behind the second magic, in either style
 --   handshake          `handshake`, new style and old
-use Rattle.std.specs.Prelude.{ℕ, zero, suc, min, ◌+◌, ◌-◌, ◌%◌, ◌^◌, not, List, [], ◌∷◌, ◌++◌, eqb, ltb, length, take, drop}
-use Rattle.std.proofs.Math.Option.{Option, none, some}
+use Rattle.std.specs.Prelude.{ℕ, zero, suc, min, ◌+◌, ◌-◌, ◌%◌, ◌^◌, not, List, [], ◌∷◌, ◌++◌, eqb, ltb, length, take, drop, Option, None, Some}
 use Rattle.machine.specs.Choice.{pick}
 use Rattle.wire.specs.Fields.{same_bytes}
 use Rattle.client.specs.declared.state.SeekFrom.{SeekFrom}
@@ -53,8 +52,8 @@ sends bytes d = record { left = d.left; sent = bytes ++ d.sent; buffer = d.buffe
 
 abbrev pub effective_len : NbdClient → ℕ → Option ℕ
 effective_len c buflen =
-    pick (eqb c.position c.size) (some 0)
-    (pick (ltb c.size c.position) none (some (min (clamp_to_u32 buflen) (clamp_to_u32 (c.size - c.position)))))
+    pick (eqb c.position c.size) (Some 0)
+    (pick (ltb c.size c.position) None (Some (min (clamp_to_u32 buflen) (clamp_to_u32 (c.size - c.position)))))
 
 -- all 16 bytes are read, then judged
 abbrev pub getreply : {R : Type 0} → List ℕ → R → (ℕ → List ℕ → R) → (ℕ → List ℕ → R) → (List ℕ → R) → R
@@ -80,28 +79,28 @@ fill c n buf left =
     (λ bytes left. stops left (bytes ++ drop n buf) (ok (n ∷ []) (at c (c.position + n))))
 
 abbrev pub read_some : NbdClient → List ℕ → List ℕ → Option ℕ → Done
-read_some c buf input none = stops input buf (refused 49 c)
-read_some c buf input (some zero) = stops input buf (ok (0 ∷ []) c)
-read_some c buf input (some (suc n)) = exchange c (sendrequest NBD_CMD_READ c.position (suc n)) buf input (fill c (suc n) buf)
+read_some c buf input None = stops input buf (refused 49 c)
+read_some c buf input (Some zero) = stops input buf (ok (0 ∷ []) c)
+read_some c buf input (Some (suc n)) = exchange c (sendrequest NBD_CMD_READ c.position (suc n)) buf input (fill c (suc n) buf)
 
 abbrev pub write_some : NbdClient → List ℕ → List ℕ → Option ℕ → Done
-write_some c buf input none = stops input buf (refused 49 c)
-write_some c buf input (some zero) = stops input buf (ok (0 ∷ []) c)
-write_some c buf input (some (suc n)) =
+write_some c buf input None = stops input buf (refused 49 c)
+write_some c buf input (Some zero) = stops input buf (ok (0 ∷ []) c)
+write_some c buf input (Some (suc n)) =
     exchange c (sendrequest NBD_CMD_WRITE c.position (suc n) ++ take (suc n) buf) buf input
     (λ left. stops left buf (ok (suc n ∷ []) (at c (c.position + suc n))))
 
 abbrev pub trim_some : NbdClient → List ℕ → Option ℕ → Done
-trim_some c input none = stops input [] (refused 49 c)
-trim_some c input (some zero) = stops input [] (ok [] c)
-trim_some c input (some (suc n)) = exchange c (sendrequest NBD_CMD_TRIM c.position (suc n)) [] input (λ left. stops left [] (ok [] c))
+trim_some c input None = stops input [] (refused 49 c)
+trim_some c input (Some zero) = stops input [] (ok [] c)
+trim_some c input (Some (suc n)) = exchange c (sendrequest NBD_CMD_TRIM c.position (suc n)) [] input (λ left. stops left [] (ok [] c))
 
 abbrev pub seek_to : NbdClient → List ℕ → Option ℕ → Done
-seek_to c input none = stops input [] (refused 48 c)
-seek_to c input (some p) = stops input [] (ok (p ∷ []) (at c p))
+seek_to c input None = stops input [] (refused 48 c)
+seek_to c input (Some p) = stops input [] (ok (p ∷ []) (at c p))
 
 abbrev pub target : NbdClient → SeekFrom → Option ℕ
-target c (Start x) = some x
+target c (Start x) = Some x
 target c (Current x) = checked_add_i64 c.position x
 target c (End x) = checked_add_i64 c.size x
 

@@ -14,8 +14,7 @@
 --   Hosts           the port: the host makes each call, steps the client over the input, cut as it likes, until nothing more moves, and reports the end of
 --                   input where the call is still open
 --   Domain          what the oracle domain asks of a session
-use Rattle.std.specs.Prelude.{ℕ, ◌≤◌, ◌≡◌, Bool, true, false, List, [], ◌∷◌, ◌++◌, length}
-use Rattle.std.proofs.Math.Option.{none, some}
+use Rattle.std.specs.Prelude.{ℕ, ◌≤◌, ◌≡◌, Bool, true, false, List, [], ◌∷◌, ◌++◌, length, None, Some}
 use Rattle.machine.specs.Machine.{on}
 use Rattle.machine.specs.Stream.{Finished}
 use Rattle.wire.specs.Results.{Result}
@@ -42,10 +41,10 @@ tells sent r t = record { left = t.left; sent = sent ++ t.sent; results = r ∷ 
 
 -- ---- document 000
 abbrev pub result_of : Answer → List ℕ → Result
-result_of (ok values c) buffer = record { number = none; values = values; buffer = buffer }
-result_of (failed error c) buffer = record { number = some 47; values = error ∷ []; buffer = buffer }
-result_of (refused n c) buffer = record { number = some n; values = []; buffer = buffer }
-result_of (fault n) buffer = record { number = some n; values = []; buffer = buffer }
+result_of (ok values c) buffer = record { number = None; values = values; buffer = buffer }
+result_of (failed error c) buffer = record { number = Some 47; values = error ∷ []; buffer = buffer }
+result_of (refused n c) buffer = record { number = Some n; values = []; buffer = buffer }
+result_of (fault n) buffer = record { number = Some n; values = []; buffer = buffer }
 
 -- after a call: the next ones, with the client as it stands; none after a fault
 abbrev pub onward : Answer → List ℕ → (NbdClient → List ℕ → Told) → Told

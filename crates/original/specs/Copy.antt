@@ -7,8 +7,7 @@
 --   mycopy         the copy; `first` is done before the first write
 --   Cursor, write_all   a device of a fixed size with a position, and `write_all` on it: as much as fits
 --   fitting, put   of the bytes those that fit; the device with bytes at its position, which moves behind them
-use Rattle.std.specs.Prelude.{ℕ, zero, suc, min, ◌+◌, ◌-◌, List, [], ◌∷◌, ◌++◌, eqb, ltb, length, take, drop}
-use Rattle.std.proofs.Math.Option.{Option, none, some}
+use Rattle.std.specs.Prelude.{ℕ, zero, suc, min, ◌+◌, ◌-◌, List, [], ◌∷◌, ◌++◌, eqb, ltb, length, take, drop, Option, None, Some}
 use Rattle.machine.specs.Choice.{pick}
 
 pub data Written (D : Type 0) : Type 0 where
@@ -30,19 +29,19 @@ buf = 65536
 module _ {D : Type 0} (write : D → List ℕ → Written D) where
   -- after a write: `limit` bytes are still to be copied
   abbrev pub wrote : List ℕ → ℕ → ℕ → Written D → (D → Copied D) → Copied D
-  wrote from limit count (full to) more = copied from to none
-  wrote from limit count (all to) more = pick (eqb limit 0) (copied from to (some count)) (more to)
+  wrote from limit count (full to) more = copied from to None
+  wrote from limit count (all to) more = pick (eqb limit 0) (copied from to (Some count)) (more to)
 
   -- after a read: the bytes that it gave, and what is left of the reader
   abbrev pub part : (D → D) → List ℕ → List ℕ → D → ℕ → ℕ → (List ℕ → D → ℕ → ℕ → Copied D) → Copied D
-  part first [] from to limit count more = copied from to (some count)
+  part first [] from to limit count more = copied from to (Some count)
   part first (b ∷ bytes) from to limit count more =
       wrote from (limit - suc (length bytes)) (count + suc (length bytes)) (write (first to) (b ∷ bytes))
       (λ next. more from next (limit - suc (length bytes)) (count + suc (length bytes)))
 
   -- the loop, which turns at most `limit` times, for each turn that goes on has copied a byte or more; with nothing to copy a read gives nothing, and it ends
   unfoldable pub turns : ℕ → (D → D) → List ℕ → D → ℕ → ℕ → Copied D
-  turns zero first from to limit count = copied from to (some count)
+  turns zero first from to limit count = copied from to (Some count)
   turns (suc k) first from to limit count =
       part first (take (min buf limit) from) (drop (min buf limit) from) to limit count (turns k (λ same. same))
 

@@ -7,8 +7,7 @@
 --   option        the match on an option whose payload was read
 --   options       the loop
 --   handshake t   the whole, with the table t
-use Rattle.std.specs.Prelude.{ℕ, zero, suc, Bool, not, List, [], ◌∷◌, ◌++◌, eqb, ltb, length}
-use Rattle.std.proofs.Math.Option.{Option, none, some}
+use Rattle.std.specs.Prelude.{ℕ, zero, suc, Bool, not, List, [], ◌∷◌, ◌++◌, eqb, ltb, length, Option, None, Some}
 use Rattle.std.specs.Int.Bits.{bit_or}
 use Rattle.machine.specs.Choice.{pick, both}
 use Rattle.wire.specs.Fields.{same_bytes}
@@ -36,16 +35,16 @@ abbrev pub cut : Shaken
 cut = fails 12 []
 
 abbrev pub lookup : List Record → List ℕ → Option Export
-lookup [] name = none
-lookup (r ∷ rs) name = pick (same_bytes r.name name) (some (record { start = r.start; size = r.size; flags = r.flags })) (lookup rs name)
+lookup [] name = None
+lookup (r ∷ rs) name = pick (same_bytes r.name name) (Some (record { start = r.start; size = r.size; flags = r.flags })) (lookup rs name)
 
 -- `client_flags & NBD_FLAG_C_NO_ZEROES == 0`
 abbrev pub zeroes : ℕ → Bool
 zeroes flags = not (has flags NBD_FLAG_C_NO_ZEROES)
 
 abbrev pub found : ℕ → List ℕ → Option Export → Shaken
-found flags left none = fails 6 left
-found flags left (some e) = writes (export_reply e.size (export_flags (table_fields e.flags)) (zeroes flags)) (chose e left [])
+found flags left None = fails 6 left
+found flags left (Some e) = writes (export_reply e.size (export_flags (table_fields e.flags)) (zeroes flags)) (chose e left [])
 
 -- `more` is the loop, with what is left of the input
 unfoldable pub option : List ℕ → ℕ → ℕ → List ℕ → List ℕ → (List ℕ → Shaken) → Shaken

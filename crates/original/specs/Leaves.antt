@@ -16,8 +16,7 @@
 -- What this crate's reading of 000 shares with the port, and why that hides no fault: `pick`, `both`, `either` and `between` are words; `be`, `number` and
 -- `same_bytes` stand for byteorder and `==`, and wire's proofs/BigEndian.antt pins them by laws of their own; the table's `records` are 01's, which no part of
 -- 000 knows; the types `Export` and `SeekFrom` only hold values.
-use Rattle.std.specs.Prelude.{ℕ, suc, ◌+◌, ◌-◌, ◌^◌, Bool, true, false, not, List, [], ◌∷◌, ◌++◌, eqb, ltb, ℤ, pos, negsuc, length, replicate}
-use Rattle.std.proofs.Math.Option.{Option, none, some}
+use Rattle.std.specs.Prelude.{ℕ, suc, ◌+◌, ◌-◌, ◌^◌, Bool, true, false, not, List, [], ◌∷◌, ◌++◌, eqb, ltb, ℤ, pos, negsuc, length, replicate, Option, None, Some}
 use Rattle.std.specs.Int.Bits.{bit_and, bit_or}
 use Rattle.machine.specs.Choice.{pick, both, between}
 use Rattle.wire.specs.Fields.{be}
@@ -55,19 +54,19 @@ tail = between 0x80 0xBF
 
 unfoldable pub behind : ℕ → Option (List (ℕ → Bool))
 behind a =
-    pick (between 0x00 0x7F a) (some [])
-    (pick (between 0xC2 0xDF a) (some (tail ∷ []))
-    (pick (between 0xE0 0xE0 a) (some (between 0xA0 0xBF ∷ tail ∷ []))
-    (pick (between 0xE1 0xEC a) (some (tail ∷ tail ∷ []))
-    (pick (between 0xED 0xED a) (some (between 0x80 0x9F ∷ tail ∷ []))
-    (pick (between 0xEE 0xEF a) (some (tail ∷ tail ∷ []))
-    (pick (between 0xF0 0xF0 a) (some (between 0x90 0xBF ∷ tail ∷ tail ∷ []))
-    (pick (between 0xF1 0xF3 a) (some (tail ∷ tail ∷ tail ∷ []))
-    (pick (between 0xF4 0xF4 a) (some (between 0x80 0x8F ∷ tail ∷ tail ∷ [])) none))))))))
+    pick (between 0x00 0x7F a) (Some [])
+    (pick (between 0xC2 0xDF a) (Some (tail ∷ []))
+    (pick (between 0xE0 0xE0 a) (Some (between 0xA0 0xBF ∷ tail ∷ []))
+    (pick (between 0xE1 0xEC a) (Some (tail ∷ tail ∷ []))
+    (pick (between 0xED 0xED a) (Some (between 0x80 0x9F ∷ tail ∷ []))
+    (pick (between 0xEE 0xEF a) (Some (tail ∷ tail ∷ []))
+    (pick (between 0xF0 0xF0 a) (Some (between 0x90 0xBF ∷ tail ∷ tail ∷ []))
+    (pick (between 0xF1 0xF3 a) (Some (tail ∷ tail ∷ tail ∷ []))
+    (pick (between 0xF4 0xF4 a) (Some (between 0x80 0x8F ∷ tail ∷ tail ∷ [])) None))))))))
 
 abbrev pub begins : Option (List (ℕ → Bool)) → (List (ℕ → Bool) → Bool) → Bool
-begins none more = false
-begins (some follow) more = more follow
+begins None more = false
+begins (Some follow) more = more follow
 
 -- the bytes that complete a character, and then characters
 unfoldable pub octets : List (ℕ → Bool) → List ℕ → Bool
@@ -82,17 +81,17 @@ from_utf8 l = octets [] l
 
 -- ---- numbers: `checked_add` and `checked_sub` of a u64, and `checked_neg` of the i64 -n
 abbrev pub checked_add : ℕ → ℕ → Option ℕ
-checked_add a b = pick (ltb (2 ^ 64 - 1) (a + b)) none (some (a + b))
+checked_add a b = pick (ltb (2 ^ 64 - 1) (a + b)) None (Some (a + b))
 
 abbrev pub checked_sub : ℕ → ℕ → Option ℕ
-checked_sub a b = pick (ltb a b) none (some (a - b))
+checked_sub a b = pick (ltb a b) None (Some (a - b))
 
 abbrev pub checked_neg : ℕ → Option ℕ
-checked_neg n = pick (eqb n (2 ^ 63)) none (some n)
+checked_neg n = pick (eqb n (2 ^ 63)) None (Some n)
 
 abbrev pub take_away : ℕ → Option ℕ → Option ℕ
-take_away a none = none
-take_away a (some b) = checked_sub a b
+take_away a None = None
+take_away a (Some b) = checked_sub a b
 
 -- `negsuc n` is -(n + 1)
 unfoldable pub checked_add_i64 : ℕ → ℤ → Option ℕ

@@ -10,8 +10,7 @@
 --   one_request      one turn of the loop
 --   onward          how the loop goes on
 --   transmission    the loop
-use Rattle.std.specs.Prelude.{ℕ, zero, suc, not, List, [], ◌++◌, eqb, drop}
-use Rattle.std.proofs.Math.Option.{Option, none, some}
+use Rattle.std.specs.Prelude.{ℕ, zero, suc, not, List, [], ◌++◌, eqb, drop, Option, None, Some}
 use Rattle.machine.specs.Choice.{pick}
 use Rattle.original.specs.Consts.{NBD_REQUEST_MAGIC, NBD_CMD_READ, NBD_CMD_WRITE, NBD_CMD_DISC, NBD_CMD_FLUSH, NBD_CMD_TRIM, NBD_CMD_WRITE_ZEROES}
 use Rattle.original.specs.Leaves.{replyt}
@@ -32,8 +31,8 @@ abbrev pub to_wire : List ℕ → List ℕ → Written (List ℕ)
 to_wire sent bytes = all (sent ++ bytes)
 
 abbrev pub read_done : ℕ → List ℕ → List ℕ → List ℕ → Option ℕ → Next
-read_done length device left sent none = stop sent device left sudden_eof
-read_done length device left sent (some n) = pick (eqb n length) (again sent device left) (stop sent device left sudden_eof)
+read_done length device left sent None = stop sent device left sudden_eof
+read_done length device left sent (Some n) = pick (eqb n length) (again sent device left) (stop sent device left sudden_eof)
 
 abbrev pub after_read : ℕ → List ℕ → List ℕ → Copied (List ℕ) → Next
 after_read length device left c = read_done length device left c.to c.count
@@ -44,8 +43,8 @@ reads handle offset length device left =
 
 -- ---- WRITE: the reader is the connection; an error of the device is 5, for it has no number of the system's
 abbrev pub write_done : ℕ → ℕ → List ℕ → List ℕ → Option ℕ → Next
-write_done handle length device left none = again (replyt 5 handle) device left
-write_done handle length device left (some n) = pick (eqb n length) (again (replyt 0 handle) device left) (stop [] device left sudden_eof)
+write_done handle length device left None = again (replyt 5 handle) device left
+write_done handle length device left (Some n) = pick (eqb n length) (again (replyt 0 handle) device left) (stop [] device left sudden_eof)
 
 abbrev pub after_write : ℕ → ℕ → Copied Cursor → Next
 after_write handle length c = write_done handle length c.to.bytes c.from c.count

@@ -10,7 +10,7 @@ use Prim.Native.Nat.{ℕ, zero, suc, ◌+◌, ◌≤◌}
 use mathlib.Core.Path.{◌≡◌, refl, ap}
 use mathlib.Core.Bool.{Bool}
 use mathlib.Core.List.{List, [], ◌∷◌, ◌++◌, append_assoc}
-use mathlib.Core.Option.{Option, none, some}
+use Rattle.std.specs.Prelude.{Option, None, Some}
 use native.Mathlib.Omega.{arith}
 use borrow.Author.Tests.{ltb-false}
 use lib.Dec.{eqb, ltb, leb}
@@ -78,8 +78,8 @@ module _ (n : ℕ) where
   calm_passing z option len (suc left) = tt
 
   calm_found : (z : Bool) (t : List ℕ) (o : Option ℕ) → Calm n (found z t o)
-  calm_found z t none = tt
-  calm_found z t (some k) = tt
+  calm_found z t None = tt
+  calm_found z t (Some k) = tt
 
   calm_naming : (z : Bool) (t : List ℕ) (fits : List Bool) (text : Utf8) (at left : ℕ) → Calm n (naming z t fits text at left)
   unfolding named

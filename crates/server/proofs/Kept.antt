@@ -5,7 +5,7 @@ use Prim.Native.Nat.{ℕ, zero, suc, ◌+◌, ◌≤◌, ◌<◌}
 use mathlib.Core.Path.{◌≡◌, refl, ◌∙◌}
 use mathlib.Core.Bool.{Bool, true, false, not}
 use mathlib.Core.List.{List, [], ◌∷◌, ◌++◌}
-use mathlib.Core.Option.{Option, none, some}
+use Rattle.std.specs.Prelude.{Option, None, Some}
 use native.Mathlib.Omega.{arith}
 use borrow.Author.Tests.{not-true, leb-true, le-leb, lt-ltb, eqb-true, eq-eqb, ne_eqb, ltb-false}
 use lib.Dec.{eqb, leb, ltb}
@@ -116,8 +116,8 @@ module _ (t : List ℕ) (n : ℕ) where
     whole_reply false = refl
 
     found_good : (z : Bool) (o : Option ℕ) → G (found z t o)
-    found_good z none = over 6 (omega arith)
-    found_good z (some k) =
+    found_good z None = over 6 (omega arith)
+    found_good z (Some k) =
         let a = accepted_at n t sound k in
         shaking (both_true a.0 (whole_reply z)) (rw (sound, a.1))
 

@@ -3,7 +3,7 @@
 --   closing    of the end of input: what it answers has the number that it must have
 use mathlib.Core.Path.{◌≡◌, refl, ap, ◌∙◌}
 use mathlib.Core.Bool.{Bool, true, false}
-use mathlib.Core.Option.{some}
+use Rattle.std.specs.Prelude.{Some}
 use Rattle.machine.specs.Choice.{pick}
 use Rattle.server.specs.Session.{State, Shaking, Serving, Over}
 use Rattle.server.specs.View.{view}
@@ -18,19 +18,19 @@ numbered (Shaking p) = refl
 numbered (Serving e p) = refl
 numbered (Over n) = refl
 
-cut_number : (s : Server) (owed : Bool) → number_of (cut_off s owed).outcome ≡ some (pick owed 28 12)
+cut_number : (s : Server) (owed : Bool) → number_of (cut_off s owed).outcome ≡ Some (pick owed 28 12)
 cut_number s true = refl
 cut_number s false = refl
 
-closed_number : (s : Server) (x : State) → number_of (ended_at s x).outcome ≡ some (end_number_at x)
+closed_number : (s : Server) (x : State) → number_of (ended_at s x).outcome ≡ Some (end_number_at x)
 closed_number s (Shaking p) = cut_number s (owes_output (Shaking p))
 closed_number s (Serving e p) = cut_number s (owes_output (Serving e p))
 closed_number s (Over n) = refl
 
-ended_number : (s : Server) → number_of (end_of_input s).outcome ≡ some (end_number s)
+ended_number : (s : Server) → number_of (end_of_input s).outcome ≡ Some (end_number s)
 ended_number s = go (in_range s)
   where
-    go : (b : Bool) → number_of (pick b (ended_at s (view s)) (record { state = s; outcome = Refused 27 })).outcome ≡ some (pick b (end_number_at (view s)) 27)
+    go : (b : Bool) → number_of (pick b (ended_at s (view s)) (record { state = s; outcome = Refused 27 })).outcome ≡ Some (pick b (end_number_at (view s)) 27)
     go true = closed_number s (view s)
     go false = refl
 

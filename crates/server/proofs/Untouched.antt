@@ -6,7 +6,7 @@ use mathlib.Core.Path.{◌≡◌, refl, sym, ap, ◌∙◌}
 use mathlib.Core.Bool.{Bool, true, false}
 use mathlib.Core.Logic.{◌⊎◌, inl, inr}
 use mathlib.Core.List.{List, [], ◌∷◌, ◌++◌}
-use mathlib.Core.Option.{Option, none, some}
+use Rattle.std.specs.Prelude.{Option, None as none, Some}
 use native.Mathlib.Omega.{arith}
 use borrow.Author.Tests.{ltb-true, ltb-false}
 use lib.Dec.{eqb, ltb, leb}
@@ -145,7 +145,7 @@ module _ (t m₀ : List ℕ) where
   -- where a turn of it leads, with the image as it was
   data Led : On State → Type 0 where
     on_way : (p : Handshake) → ((e : Export) → Has (Shaking p) e → ⊥) → Led (on (Shaking p) m₀)
-    at_choice : (z : Bool) (k : ℕ) → Led (on (found z t (some k)) m₀)
+    at_choice : (z : Bool) (k : ℕ) → Led (on (found z t (Some k)) m₀)
     at_end : {n : ℕ} → Led (on (Over n) m₀)
 
   abbrev L : State → Type 0
@@ -193,7 +193,7 @@ module _ (t m₀ : List ℕ) where
 
   led_found : (z : Bool) (o : Option ℕ) → L (found z t o)
   led_found z none = at_end
-  led_found z (some k) = at_choice z k
+  led_found z (Some k) = at_choice z k
 
   led_naming : (z : Bool) (fits : List Bool) (text : Utf8) (at left : ℕ) → L (naming z t fits text at left)
   unfolding named
@@ -222,7 +222,7 @@ module _ (t m₀ : List ℕ) where
   -- ---- moves from there: the image is as it was, or they pass the place where an export is chosen
   data Ways (x : On State) (is os : List ℕ) (y : On State) : Type 0 where
     unchosen : {z : State} → y ≡ on z m₀ → Ways x is os y
-    by_choice : (z : Bool) (k : ℕ) → Via (turn t) x (on (found z t (some k)) m₀) y is os → Ways x is os y
+    by_choice : (z : Bool) (k : ℕ) → Via (turn t) x (on (found z t (Some k)) m₀) y is os → Ways x is os y
 
   first_given : {x y z : On State} {b : ℕ} {is os : List ℕ} → turn t x ≡ gives b y → Ways y is os z → Ways x is (b ∷ os) z
   first_given q (unchosen e) = unchosen e
@@ -263,7 +263,7 @@ some_record t k {m} {m'} a = go (ltb k (length (records t))) refl
     go false q = let d : get_or (records t) k no_record ≡ no_record = get_or-eq_default (records t) no_record (ltb-false k (length (records t)) q) in inr (rw d at a.behind)
 
 passed : (t : List ℕ) (k : ℕ) {z : Bool} {m m' is os : List ℕ} {x y : State} → Good t (length m) x
-    → Via (turn t) (on x m) (on (found z t (some k)) m) (on y m') is os → Only (export_at t k) m y m'
+    → Via (turn t) (on x m) (on (found z t (Some k)) m) (on y m') is os → Only (export_at t k) m y m'
 passed t k g (via p r) = only (still_good p g).1 r announced
 
 chose : {t m m' is os : List ℕ} {x y : State} → Good t (length m) x → Ways t m (on x m) is os (on y m') → (m' ≡ m) ⊎ Chose t m x is os y m'

@@ -10,8 +10,7 @@
 --   Closes        the host reports the end of input
 --   header_of      01's number for each answer of the old-style header
 --   Heads         the old-style header
-use Rattle.std.specs.Prelude.{ℕ, ◌≡◌, Bool, List, [], ◌++◌, ltb, length, drop}
-use Rattle.std.proofs.Math.Option.{Option, none, some}
+use Rattle.std.specs.Prelude.{ℕ, ◌≡◌, Bool, List, [], ◌++◌, ltb, length, drop, Option, None, Some}
 use Rattle.machine.specs.Choice.{pick}
 use Rattle.machine.specs.Machine.{on, owes}
 use Rattle.machine.specs.Pieces.{Steps}
@@ -29,9 +28,9 @@ use Rattle.server.specs.declared.state.Outcome.TheVariants.{GoingOn, Ended, Refu
 
 -- "a session going on or a call that succeeds answers without a number"
 abbrev pub number_of : Outcome → Option ℕ
-number_of GoingOn = none
-number_of (Ended n) = some n
-number_of (Refused n) = some n
+number_of GoingOn = None
+number_of (Ended n) = Some n
+number_of (Refused n) = Some n
 
 -- what a step that went as far as it could ends with
 abbrev pub outcome_of : State → Outcome
@@ -41,15 +40,15 @@ outcome_of (Over n) = Ended n
 
 -- and 01's number there
 abbrev pub number_at : State → Option ℕ
-number_at (Shaking p) = none
-number_at (Serving e p) = none
-number_at (Over n) = some n
+number_at (Shaking p) = None
+number_at (Serving e p) = None
+number_at (Over n) = Some n
 
 module _ (self : Server) (t m input room : List ℕ) (r : Stepped) (m' room' : List ℕ) where
   -- "All others change nothing at all"
   pub record Refuses : Type 0 where
     pub result : r ≡ record { state = self; taken = 0; given = 0; outcome = Refused (refusal t (length m) self) }
-    pub number : number_of r.outcome ≡ some (refusal t (length m) self)
+    pub number : number_of r.outcome ≡ Some (refusal t (length m) self)
     pub same_image : m' ≡ m
     pub same_room : room' ≡ room
 
@@ -90,13 +89,13 @@ end_number s = pick (in_range s) (end_number_at (view s)) 27
 
 pub record Closes (s : Server) (r : InputEnded) : Type 0 where
   pub result : r ≡ end_of_input s
-  pub number : number_of r.outcome ≡ some (end_number s)
+  pub number : number_of r.outcome ≡ Some (end_number s)
 
 -- "room under 152 bytes for the old-style header": 13, and nothing changes
 abbrev pub header_of : HeaderAnswer → Option ℕ
-header_of Written = none
-header_of NoRoom = some 13
+header_of Written = None
+header_of NoRoom = Some 13
 
 pub record Heads (room : List ℕ) (size flags : ℕ) (r : HeaderAnswer) (room' : List ℕ) : Type 0 where
-  pub number : header_of r ≡ pick (ltb (length room) 152) (some 13) none
+  pub number : header_of r ≡ pick (ltb (length room) 152) (Some 13) None
   pub written : room' ≡ pick (ltb (length room) 152) room (oldstyle_header size flags ++ drop 152 room)

@@ -9,8 +9,7 @@
 --   Via      moves that pass a place: the bytes up to there, and those from there on
 --   Chose    on its way the session chose an export of the table, and wrote in that export's window only
 --   Untouched   "no other image byte is ever written": what is left of the image, by the export that the session had
-use Rattle.std.specs.Prelude.{ℕ, ◌+◌, ◌^◌, ◌<◌, ◌≡◌, ◌⊎◌, Bool, List, ◌++◌, length, take, drop}
-use Rattle.std.proofs.Math.Option.{some}
+use Rattle.std.specs.Prelude.{ℕ, ◌+◌, ◌^◌, ◌<◌, ◌≡◌, ◌⊎◌, Bool, List, ◌++◌, length, take, drop, Some}
 use Rattle.machine.specs.Machine.{Turn, on, Moves}
 use Rattle.wire.specs.Constants.{NBD_OPT_INFO, NBD_OPT_GO, NBD_OPT_STRUCTURED_REPLY, NBD_OPT_EXTENDED_HEADERS}
 use Rattle.wire.specs.Table.{records}
@@ -70,7 +69,7 @@ pub record Chose (t m : List ℕ) (x : State) (is os : List ℕ) (y : State) (m'
   pub number : ℕ
   pub listed : number < length (records t)
   pub zeroes : Bool
-  pub way : Via (turn t) (on x m) (on (found zeroes t (some number)) m) (on y m') is os
+  pub way : Via (turn t) (on x m) (on (found zeroes t (Some number)) m) (on y m') is os
   pub only : Only (export_at t number) m y m'
 
 pub record Untouched (t m : List ℕ) (x : State) (is os : List ℕ) (y : State) (m' : List ℕ) : Type 0 where

@@ -23,8 +23,7 @@
 --   payload, judge_option           the state after an option's 16 bytes; the state after so many of them
 --   begun, requested               the state after a request's 28 bytes, by what it is owed; the state after so many of them
 --   turn t                         one byte, with the table t and the image lent
-use Rattle.std.specs.Prelude.{ℕ, zero, suc, ◌+◌, Bool, true, false, List, [], ◌∷◌, ◌++◌, eqb, ltb, leb, length, get_or, set, take, drop}
-use Rattle.std.proofs.Math.Option.{Option, none, some}
+use Rattle.std.specs.Prelude.{ℕ, zero, suc, ◌+◌, Bool, true, false, List, [], ◌∷◌, ◌++◌, eqb, ltb, leb, length, get_or, set, take, drop, Option, None, Some}
 use Rattle.machine.specs.Choice.{pick}
 use Rattle.machine.specs.Machine.{On, on, Turn, gives, takes, rests}
 use Rattle.machine.specs.Parts.{less, owing}
@@ -153,8 +152,8 @@ abbrev pub export_at : List ℕ → ℕ → Export
 export_at t k = export_of (get_or (records t) k no_record)
 
 abbrev pub found : Bool → List ℕ → Option ℕ → State
-found z t none = Over 6
-found z t (some k) = Shaking (Exporting z (export_at t k) (reply_length z))
+found z t None = Over 6
+found z t (Some k) = Shaking (Exporting z (export_at t k) (reply_length z))
 
 unfoldable pub named : Bool → List ℕ → List Bool → Utf8 → State
 named z t fits text = pick (whole text) (found z t (chosen fits)) (Over 5)

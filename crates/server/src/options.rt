@@ -26,7 +26,6 @@ ghost use Rattle.server.specs.Inner.{option_until, Absorbed};
 use crate::ranges;
 use crate::state::{Handshake, Phase, Server, Took, Transmission};
 use machine::{copy, parts};
-use wire::lookup::Chosen;
 use wire::table::Export;
 use wire::utf8::Utf8;
 use wire::{consts, fields, lookup, table};
@@ -137,7 +136,7 @@ fn named(zeroes: bool, table: &[u8], fits: u32, text: Utf8) -> Phase
     if text.whole() {
         let found = lookup::lowest(fits);
         match found {
-            Chosen::Export(k) => {
+            Some(k) => {
                 let export = table::export_at(table, k);
                 let left = ranges::reply_length(zeroes);
                 Phase::Shaking(Handshake::Exporting {
@@ -146,7 +145,7 @@ fn named(zeroes: bool, table: &[u8], fits: u32, text: Utf8) -> Phase
                     left,
                 })
             }
-            Chosen::Nothing => Phase::Over(6),
+            None => Phase::Over(6),
         }
     } else {
         Phase::Over(5)

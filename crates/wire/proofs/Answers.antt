@@ -1,34 +1,13 @@
 -- Two answers of a public function that stand for the same value are the same answer.
---   same_chosen    of `lowest`
---   same_sum       of `checked_add_i64`
 --   same_checked   of `check`
 -- Of `started` and `narrowed` it is `one_number` of Words.antt; the other public functions answer an equation.
 use Prim.Native.Nat.{ℕ}
 use mathlib.Core.Path.{◌≡◌, refl, sym, ap, ◌∙◌}
-use native.Mathlib.Omega.{arith}
 use lib.Dec.{eqb}
 use Rattle.machine.specs.Choice.{pick}
-use Rattle.wire.specs.Numbers.{sum_of}
 use Rattle.wire.specs.Table.{fault_of}
-use Rattle.wire.specs.Lookup.{chosen_of}
-use Rattle.wire.specs.declared.number.Added.{Added}
-use Rattle.wire.specs.declared.number.Added.TheVariants.{Sum, Outside}
-use Rattle.wire.specs.declared.lookup.Chosen.{Chosen}
-use Rattle.wire.specs.declared.lookup.Chosen.TheVariants.{Export, Nothing}
 use Rattle.wire.specs.declared.table.Checked.{Checked}
 use Rattle.wire.specs.declared.table.Checked.TheVariants.{Sound, Version, Length, Count, Window, Flags, Name}
-
-pub same_chosen : (a b : Chosen) → chosen_of a ≡ chosen_of b → a ≡ b
-same_chosen (Export j) (Export k) e = cc
-same_chosen (Export j) Nothing e = absurd (let z : ◌≡◌ {A = ℕ} 0 1 = cc in omega arith)
-same_chosen Nothing (Export k) e = absurd (let z : ◌≡◌ {A = ℕ} 0 1 = cc in omega arith)
-same_chosen Nothing Nothing e = refl
-
-pub same_sum : (a b : Added) → sum_of a ≡ sum_of b → a ≡ b
-same_sum (Sum m) (Sum n) e = cc
-same_sum (Sum m) Outside e = absurd (let z : ◌≡◌ {A = ℕ} 0 1 = cc in omega arith)
-same_sum Outside (Sum n) e = absurd (let z : ◌≡◌ {A = ℕ} 0 1 = cc in omega arith)
-same_sum Outside Outside e = refl
 
 -- the answer of a number
 answer_of : ℕ → Checked

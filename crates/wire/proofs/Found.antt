@@ -9,7 +9,7 @@ use Prim.Native.Nat.{ℕ, zero, suc, ◌+◌, ◌≤◌, ◌<◌}
 use mathlib.Core.Path.{◌≡◌, refl, ap, sym, ◌∙◌}
 use mathlib.Core.Bool.{Bool, true, false}
 use mathlib.Core.List.{List, [], ◌∷◌, ◌++◌, map}
-use mathlib.Core.Option.{Option, none, some}
+use Rattle.std.specs.Prelude.{Option, None, Some}
 use mathlib.Core.Logic.{◌↔◌}
 use native.Mathlib.Omega.{arith}
 use lib.ListN.{length, get_or}
@@ -162,15 +162,15 @@ module _ (rs : List Record) (name : List ℕ) where
       ))
 
 -- ---- the lowest one
-later_some : (o : Option ℕ) (k : ℕ) → later o ≡ some k → (j : ℕ) × (o ≡ some j) × (k ≡ suc j)
-later_some none k e = let z : ◌≡◌ {A = ℕ} 0 1 = cc in absurd (omega arith)
-later_some (some j) k e = (j, refl, cc)
+later_some : (o : Option ℕ) (k : ℕ) → later o ≡ Some k → (j : ℕ) × (o ≡ Some j) × (k ≡ suc j)
+later_some None k e = let z : ◌≡◌ {A = ℕ} 0 1 = cc in absurd (omega arith)
+later_some (Some j) k e = (j, refl, cc)
 
-later_none : (o : Option ℕ) → later o ≡ none → o ≡ none
-later_none none e = refl
-later_none (some j) e = let z : ◌≡◌ {A = ℕ} 0 1 = cc in absurd (omega arith)
+later_none : (o : Option ℕ) → later o ≡ None → o ≡ None
+later_none None e = refl
+later_none (Some j) e = let z : ◌≡◌ {A = ℕ} 0 1 = cc in absurd (omega arith)
 
-chosen_in : (set : List Bool) (k : ℕ) → chosen set ≡ some k → In set k × ((j : ℕ) → j < k → In set j → ⊥)
+chosen_in : (set : List Bool) (k : ℕ) → chosen set ≡ Some k → In set k × ((j : ℕ) → j < k → In set j → ⊥)
 chosen_in [] k e = let z : ◌≡◌ {A = ℕ} 0 1 = cc in absurd (omega arith)
 chosen_in (true ∷ set) k e =
     let z : 0 ≡ k = cc in
@@ -184,27 +184,27 @@ chosen_in (false ∷ set) k e =
     below m q n zero h i = let z : ◌≡◌ {A = ℕ} 0 1 = cc in omega arith
     below m q n (suc j) h i = n j (omega arith) i
 
-in_chosen : (set : List Bool) (k : ℕ) → In set k → ((j : ℕ) → j < k → In set j → ⊥) → chosen set ≡ some k
+in_chosen : (set : List Bool) (k : ℕ) → In set k → ((j : ℕ) → j < k → In set j → ⊥) → chosen set ≡ Some k
 in_chosen [] k e n = let z : ◌≡◌ {A = ℕ} 0 1 = cc in absurd (omega arith)
 in_chosen (true ∷ set) zero e n = refl
 in_chosen (true ∷ set) (suc k) e n = absurd (n 0 (omega arith) refl)
 in_chosen (false ∷ set) zero e n = let z : ◌≡◌ {A = ℕ} 0 1 = cc in absurd (omega arith)
 in_chosen (false ∷ set) (suc k) e n = ap later (in_chosen set k e (λ j h. n (suc j) (omega arith)))
 
-chosen_out : (set : List Bool) → chosen set ≡ none → (k : ℕ) → In set k → ⊥
+chosen_out : (set : List Bool) → chosen set ≡ None → (k : ℕ) → In set k → ⊥
 chosen_out [] e k i = let z : ◌≡◌ {A = ℕ} 0 1 = cc in omega arith
 chosen_out (true ∷ set) e k i = let z : ◌≡◌ {A = ℕ} 0 1 = cc in omega arith
 chosen_out (false ∷ set) e zero i = let z : ◌≡◌ {A = ℕ} 0 1 = cc in omega arith
 chosen_out (false ∷ set) e (suc k) i = chosen_out set (later_none (chosen set) e) k i
 
-out_chosen : (set : List Bool) → ((k : ℕ) → In set k → ⊥) → chosen set ≡ none
+out_chosen : (set : List Bool) → ((k : ℕ) → In set k → ⊥) → chosen set ≡ None
 out_chosen [] n = refl
 out_chosen (true ∷ set) n = absurd (n 0 refl)
 out_chosen (false ∷ set) n = ap later (out_chosen set (λ k. n (suc k)))
 
 -- ---- what is found
 module _ (rs : List Record) (name : List ℕ) (few : length rs ≤ 32) where
-  pub found_first : (k : ℕ) → (chosen (narrowed_by rs 0 name (started rs (length name))) ≡ some k) ↔ First rs name k
+  pub found_first : (k : ℕ) → (chosen (narrowed_by rs 0 name (started rs (length name))) ≡ Some k) ↔ First rs name k
   found_first k = (
     λ e.
         let w = chosen_in (final rs name) k e in
@@ -212,7 +212,7 @@ module _ (rs : List Record) (name : List ℕ) (few : length rs ≤ 32) where
     λ f. in_chosen (final rs name) k (final_in rs name few k f.fits) (λ j h i. f.before j h (in_final rs name j i)),
   )
 
-  pub found_none : (chosen (narrowed_by rs 0 name (started rs (length name))) ≡ none) ↔ ((k : ℕ) → Named rs k name → ⊥)
+  pub found_none : (chosen (narrowed_by rs 0 name (started rs (length name))) ≡ None) ↔ ((k : ℕ) → Named rs k name → ⊥)
   found_none = (
     λ e k n. chosen_out (final rs name) e k (final_in rs name few k n),
     λ n. out_chosen (final rs name) (λ k i. n k (in_final rs name k i)),
@@ -228,6 +228,6 @@ ab = only (0x61 ∷ 0x62 ∷ [])
 abbrev abc : List Record
 abc = only (0x61 ∷ 0x62 ∷ 0x63 ∷ [])
 
-pub became_longer : chosen (narrowed_under 0 (under ab 0x61 ∷ under abc 0x62 ∷ []) (started ab 2)) ≡ some 0
+pub became_longer : chosen (narrowed_under 0 (under ab 0x61 ∷ under abc 0x62 ∷ []) (started ab 2)) ≡ Some 0
 unfolding started
 became_longer = refl

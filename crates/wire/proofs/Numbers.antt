@@ -1,63 +1,69 @@
--- Laws of a sum with a signed number, which the code judges by its sign.
---   not_negative              a number that is not negative is unsigned as it stands
---   negated, negated_fits     a negative number's negation, which fits unless the number is the lowest
---   up_outside, up_sum        the sum where the number is not negative
---   lowest_outside            where it is the lowest
---   down_outside, down_sum    where it is another negative one
-use Prim.Native.Nat.{ℕ, suc, ◌+◌, ◌-◌, ◌^◌, ◌≤◌, ◌<◌}
-use mathlib.Core.Path.{◌≡◌, ap}
-use mathlib.Core.Bool.{true, false}
-use mathlib.Core.Option.{none, some}
+-- Laws of a sum with a signed number.
+--   up_outside, up_sum      the sum where the number is not negative
+--   lowest_outside          where it is the lowest
+--   down_outside, down_sum  where it is another negative one
+--   sum_some, sum_none      `added`, by the library's sum of the integers, and at the lowest number
+use Rattle.std.specs.Prelude.{◌≡◌, ℕ, suc, ◌+◌, ◌-◌, ◌^◌, ◌≤◌, ◌<◌, ℤ, pos, negsuc, ◌+ℤ◌, unsigned_abs, Option, None, Some}
+use Rattle.std.specs.Option.{SomeIff}
+use Rattle.std.specs.Int.{FitsUnsigned}
+use mathlib.Core.Path.{sym}
 use native.Mathlib.Omega.{arith}
-use native.Mathlib.Nat.{zero-add}
-use lib.IntN.{ℤ, pos, negsuc, nat_abs, ◌-ℤ◌}
-use lib.Arith.{lt_of_le-ne}
-use lib.Dec.{T}
-use lib.Signed.{le_z, non_neg}
+use lib.Dec.{le→leb, lt→ltb, ltb→lt}
 use mir.Syntax.{w64}
-use mir.Val.{Fits, SFits, of_z}
-use borrow.Author.Tests.{lt-ltb, le-ltb, le-leb, lt-leb, leb-false, eq-eqb, ne_eqb}
+use mir.Val.{SFits, of_z}
+use borrow.Author.Tests.{lt-ltb, le-ltb, le-leb, lt-leb, eq-eqb, ne_eqb}
 use Rattle.wire.specs.Numbers.{added}
 
--- ---- the number's size
-pub not_negative : (z : ℤ) → SFits w64 z → le_z (pos 0) z ≡ true → T (non_neg z) × Fits w64 (nat_abs z)
-not_negative (pos n) f t = (tt, let h = f.sfits in omega arith)
-not_negative (negsuc n) f t = absurd (let z : ◌≡◌ {A = ℕ} 0 1 = cc in omega arith)
-
--- ---- the negation of a negative number
-pub negated : (z : ℤ) → le_z (pos 0) z ≡ false → pos 0 -ℤ z ≡ pos (nat_abs z)
-negated (pos n) t = absurd (omega (arith, leb-false 0 n t))
-negated (negsuc n) t = ap pos (zero-add (suc n))
-
-pub negated_fits : (z : ℤ) → SFits w64 z → le_z (pos 0) z ≡ false → (of_z w64 z ≡ 2 ^ 63 → ⊥) → SFits w64 (pos (nat_abs z))
-negated_fits (pos n) f t d = absurd (omega (arith, leb-false 0 n t))
-negated_fits (negsuc n) f t d =
-    let ne : suc n ≡ 2 ^ 63 → ⊥ = (λ e. d (omega arith)) in
-    record { sfits = lt_of_le-ne f.sfits ne }
-
--- ---- the sum
 module _ (p : ℕ) where
-  pub up_outside : (z : ℤ) → le_z (pos 0) z ≡ true → 2 ^ 64 ≤ p + nat_abs z → added p z ≡ none
+  pub up_outside : (n : ℕ) → 2 ^ 64 ≤ p + n → added p (pos n) ≡ None
   unfolding added
-  up_outside (pos n) t h = rw le-ltb
-  up_outside (negsuc n) t h = absurd (let z : ◌≡◌ {A = ℕ} 0 1 = cc in omega arith)
+  up_outside n h = rw le-ltb
 
-  pub up_sum : (z : ℤ) → le_z (pos 0) z ≡ true → p + nat_abs z < 2 ^ 64 → added p z ≡ some (p + nat_abs z)
+  pub up_sum : (n : ℕ) → p + n < 2 ^ 64 → added p (pos n) ≡ Some (p + n)
   unfolding added
-  up_sum (pos n) t h = rw lt-ltb
-  up_sum (negsuc n) t h = absurd (let z : ◌≡◌ {A = ℕ} 0 1 = cc in omega arith)
+  up_sum n h = rw lt-ltb
 
-  pub lowest_outside : (z : ℤ) → le_z (pos 0) z ≡ false → of_z w64 z ≡ 2 ^ 63 → added p z ≡ none
+  pub lowest_outside : (n : ℕ) → suc n ≡ 2 ^ 63 → added p (negsuc n) ≡ None
   unfolding added
-  lowest_outside (pos n) t e = absurd (omega (arith, leb-false 0 n t))
-  lowest_outside (negsuc n) t e = let l : suc n ≡ 2 ^ 63 = omega arith in rw eq-eqb
+  lowest_outside n e = rw eq-eqb
 
-  pub down_outside : (z : ℤ) → le_z (pos 0) z ≡ false → (of_z w64 z ≡ 2 ^ 63 → ⊥) → p < nat_abs z → added p z ≡ none
+  pub down_outside : (n : ℕ) → (suc n ≡ 2 ^ 63 → ⊥) → p < suc n → added p (negsuc n) ≡ None
   unfolding added
-  down_outside (pos n) t d h = absurd (omega (arith, leb-false 0 n t))
-  down_outside (negsuc n) t d h = let l : suc n ≡ 2 ^ 63 → ⊥ = (λ e. d (omega arith)) in rw (ne_eqb, lt-leb)
+  down_outside n d h = rw (ne_eqb, lt-leb)
 
-  pub down_sum : (z : ℤ) → le_z (pos 0) z ≡ false → (of_z w64 z ≡ 2 ^ 63 → ⊥) → nat_abs z ≤ p → added p z ≡ some (p - nat_abs z)
+  pub down_sum : (n : ℕ) → (suc n ≡ 2 ^ 63 → ⊥) → suc n ≤ p → added p (negsuc n) ≡ Some (p - suc n)
   unfolding added
-  down_sum (pos n) t d h = absurd (omega (arith, leb-false 0 n t))
-  down_sum (negsuc n) t d h = let l : suc n ≡ 2 ^ 63 → ⊥ = (λ e. d (omega arith)) in rw (ne_eqb, le-leb)
+  down_sum n d h = rw (ne_eqb, le-leb)
+
+  -- ---- the library's sum
+  up_some : (n : ℕ) (r : Option ℕ) → SomeIff r (FitsUnsigned w64 (pos p +ℤ pos n)) (unsigned_abs (pos p +ℤ pos n)) → r ≡ added p (pos n)
+  up_some n None s =
+      let far : p + n < 2 ^ 64 → ⊥ = (λ h. s (record { le = le→leb 0 (p + n) (omega arith) }, record { lt = lt→ltb (p + n) (2 ^ 64) h })) in
+      sym (up_outside n (omega arith))
+  up_some n (Some x) s = rw s.1 (sym (up_sum n (ltb→lt (p + n) (2 ^ 64) s.0.1.lt)))
+
+  below : (n : ℕ) → p < suc n → pos p +ℤ negsuc n ≡ negsuc (suc n - suc p)
+  below n h = rw (lt-ltb p (suc n) h)
+
+  above : (n : ℕ) → suc n ≤ p → pos p +ℤ negsuc n ≡ pos (p - suc n)
+  above n h = rw (le-ltb p (suc n) h)
+
+  down_some : (n : ℕ) → (suc n ≡ 2 ^ 63 → ⊥) → (r : Option ℕ) → p < 2 ^ 64
+      → SomeIff r (FitsUnsigned w64 (pos p +ℤ negsuc n)) (unsigned_abs (pos p +ℤ negsuc n)) → r ≡ added p (negsuc n)
+  down_some n d None h s =
+      let far : suc n ≤ p → ⊥ =
+      (λ l. (rw (above n l) at s) (record { le = le→leb 0 (p - suc n) (omega arith) }, record { lt = lt→ltb (p - suc n) (2 ^ 64) (omega arith) })) in
+      sym (down_outside n d (omega arith))
+  down_some n d (Some x) h s =
+      let near : p < suc n → ⊥ = (λ l. (rw (below n l) at s.0.0).le) in
+      let l : suc n ≤ p = omega arith in
+      rw (rw (above n l) at s.1) (sym (down_sum n d l))
+
+  pub sum_some : (z : ℤ) → SFits w64 z → (of_z w64 z ≡ 2 ^ 63 → ⊥) → (r : Option ℕ) → p < 2 ^ 64
+      → SomeIff r (FitsUnsigned w64 (pos p +ℤ z)) (unsigned_abs (pos p +ℤ z)) → r ≡ added p z
+  sum_some (pos n) f d r h s = up_some n r s
+  sum_some (negsuc n) f d r h s = down_some n (λ e. d (omega arith)) r h s
+
+  pub sum_none : (z : ℤ) → SFits w64 z → of_z w64 z ≡ 2 ^ 63 → added p z ≡ None
+  sum_none (pos n) f e = absurd (let h = f.sfits in omega arith)
+  sum_none (negsuc n) f e = lowest_outside n (let h = f.sfits in omega arith)

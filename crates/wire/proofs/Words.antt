@@ -10,7 +10,7 @@ use Prim.Native.Nat.{ℕ, zero, suc, ◌+◌, ◌*◌, ◌/◌, ◌%◌, ◌^◌
 use mathlib.Core.Path.{◌≡◌, refl, sym, ap, ◌∙◌}
 use mathlib.Core.Bool.{Bool, true, false}
 use mathlib.Core.List.{List, [], ◌∷◌}
-use mathlib.Core.Option.{none, some}
+use Rattle.std.specs.Prelude.{None, Some}
 use native.Mathlib.Omega.{arith}
 use native.Mathlib.Nat.{pow-suc}
 use lib.ListN.{length}
@@ -62,20 +62,20 @@ length_bits (suc k) w = ap suc (length_bits k (w / 2))
 pub one_number : {a b : ℕ} → a < 2 ^ 32 → b < 2 ^ 32 → set_of a ≡ set_of b → a ≡ b
 one_number {a} {b} h k e = sym (word_bits 32 a h) ∙ ap word e ∙ word_bits 32 b k
 
-pub chosen_bits : (k w : ℕ) → w < 2 ^ k → (w ≡ 0 → ⊥) → chosen (bits k w) ≡ some (count_trailing_zeros k w)
+pub chosen_bits : (k w : ℕ) → w < 2 ^ k → (w ≡ 0 → ⊥) → chosen (bits k w) ≡ Some (count_trailing_zeros k w)
 unfolding count_trailing_zeros bits
 chosen_bits zero w h n = absurd (n (omega arith))
 chosen_bits (suc k) w h n =
     let l : w < 2 ^ k * 2 = rw pow-suc at h in
     go (w % 2) refl (omega arith) (λ z. chosen_bits k (w / 2) (omega arith) (λ y. n (omega arith)))
   where
-    go : (d : ℕ) → w % 2 ≡ d → d < 2 → (d ≡ 0 → chosen (bits k (w / 2)) ≡ some (count_trailing_zeros k (w / 2)))
-        → chosen (eqb d 1 ∷ bits k (w / 2)) ≡ some (under d (count_trailing_zeros k (w / 2)))
+    go : (d : ℕ) → w % 2 ≡ d → d < 2 → (d ≡ 0 → chosen (bits k (w / 2)) ≡ Some (count_trailing_zeros k (w / 2)))
+        → chosen (eqb d 1 ∷ bits k (w / 2)) ≡ Some (under d (count_trailing_zeros k (w / 2)))
     go zero e b rest = ap later (rest refl)
     go (suc zero) e b rest = refl
     go (suc (suc d)) e b rest = absurd (omega arith)
 
-pub chosen_none : (k : ℕ) → chosen (bits k 0) ≡ none
+pub chosen_none : (k : ℕ) → chosen (bits k 0) ≡ None
 unfolding bits
 chosen_none zero = refl
 chosen_none (suc k) = ap later (chosen_none k)

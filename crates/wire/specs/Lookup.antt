@@ -7,15 +7,11 @@
 --   narrowed_by rs i bs set   the bytes bs, from the place i on, one after the other
 --   later                 the place one further on, if there is one
 --   chosen set            "the lowest one left"
---   chosen_of              the value that the code's answer stands for
 --   digit, word set       a binary digit; the number of a set, whose binary digit k is record k
 --   bits k w, set_of w     the set of the lowest k binary digits of w; the set that the code's 32-bit number w stands for
-use Rattle.std.specs.Prelude.{ℕ, zero, suc, ◌+◌, ◌*◌, ◌/◌, ◌%◌, Bool, true, false, List, [], ◌∷◌, eqb, ltb, length, get_or}
-use Rattle.std.proofs.Math.Option.{Option, none, some}
+use Rattle.std.specs.Prelude.{ℕ, zero, suc, ◌+◌, ◌*◌, ◌/◌, ◌%◌, Bool, true, false, List, [], ◌∷◌, eqb, ltb, length, get_or, Option, None, Some}
 use Rattle.machine.specs.Choice.{both}
 use Rattle.wire.specs.Table.{Record}
-use Rattle.wire.specs.declared.lookup.Chosen.{Chosen}
-use Rattle.wire.specs.declared.lookup.Chosen.TheVariants.{Export, Nothing}
 
 abbrev pub started_in : ℕ → List Record → ℕ → List Bool
 started_in zero rs len = []
@@ -38,17 +34,13 @@ narrowed_by rs i [] set = set
 narrowed_by rs i (b ∷ bs) set = narrowed_by rs (suc i) bs (narrowed rs i b set)
 
 abbrev pub later : Option ℕ → Option ℕ
-later none = none
-later (some k) = some (suc k)
+later None = None
+later (Some k) = Some (suc k)
 
 abbrev pub chosen : List Bool → Option ℕ
-chosen [] = none
-chosen (true ∷ xs) = some 0
+chosen [] = None
+chosen (true ∷ xs) = Some 0
 chosen (false ∷ xs) = later (chosen xs)
-
-abbrev pub chosen_of : Chosen → Option ℕ
-chosen_of (Export k) = some k
-chosen_of Nothing = none
 
 -- ---- the set as a number
 abbrev pub digit : Bool → ℕ

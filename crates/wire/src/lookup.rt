@@ -2,18 +2,11 @@
 // file knows that.
 ghost use Rattle.std.specs.Prelude.{◌≡◌, ◌^◌, ◌<◌, length};
 ghost use Rattle.wire.specs.Table.{records};
-ghost use Rattle.wire.specs.Lookup.{started, narrowed_by, chosen, chosen_of, set_of};
+ghost use Rattle.wire.specs.Lookup.{started, narrowed_by, chosen, set_of};
 ghost use Rattle.wire.specs.Walk.{has_all, record_at, Inside, sieve, share, passed};
 
 use crate::fields;
 use crate::table::{Entry, Front, MAX_RECORDS, front_at};
-
-// The number of the export that fits, if one does.
-#[derive(Clone, Copy)]
-pub enum Chosen {
-    Export(usize),
-    Nothing,
-}
 
 // A set that is made record by record: the digits of the old one that are left, the next one's weight, and what is known of the new one.
 #[derive(Clone, Copy)]
@@ -126,13 +119,13 @@ pub fn narrowed(set: u32, table: &[u8], at: usize, part: &[u8]) -> u32
     s.done
 }
 
-// The lowest export of the set.
-pub fn lowest(set: u32) -> Chosen
-    ensures { chosen_of result ≡ chosen (set_of set) }
+// The number of the lowest export of the set.
+pub fn lowest(set: u32) -> Option<usize>
+    ensures { result ≡ chosen (set_of set) }
 {
     if set == 0 {
-        Chosen::Nothing
+        None
     } else {
-        Chosen::Export(u32::trailing_zeros(set) as usize)
+        Some(set.trailing_zeros() as usize)
     }
 }

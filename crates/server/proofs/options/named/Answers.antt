@@ -1,16 +1,15 @@
 -- The text is judged first, then the set; the lowest export left is chosen.
-use mathlib.Core.Path.{sym, ap, ◌∙◌}
-use Rattle.wire.specs.Lookup.{chosen_of}
+use mathlib.Core.Path.{sym, ◌∙◌}
 use Rattle.server.specs.Session.{named}
 use Rattle.server.proofs.options.named.Goals as goal
 
-pub returns-in-Export : goal.returns-in-Export
+pub returns-in-Some : goal.returns-in-Some
 unfolding named
-returns-in-Export c = λ _. rw (sym c.whole.ensures ∙ c.if-whole.true, sym c.lowest-found.ensures ∙ ap chosen_of c.in-Export.is, c.export_at-export.ensures, c.reply_length-left.ensures)
+returns-in-Some c = λ _. rw (sym c.whole.ensures ∙ c.if-whole.true, sym c.lowest-found.ensures ∙ c.in-Some.is, c.export_at-export.ensures, c.reply_length-left.ensures)
 
-pub returns-in-Nothing : goal.returns-in-Nothing
+pub returns-in-None : goal.returns-in-None
 unfolding named
-returns-in-Nothing c = λ _. rw (sym c.whole.ensures ∙ c.if-whole.true, sym c.lowest-found.ensures ∙ ap chosen_of c.in-Nothing.is)
+returns-in-None c = λ _. rw (sym c.whole.ensures ∙ c.if-whole.true, sym c.lowest-found.ensures ∙ c.in-None.is)
 
 pub returns-else-whole : goal.returns-else-whole
 unfolding named
