@@ -9,13 +9,12 @@ use Prim.Native.Nat.{ℕ, zero, suc, min, ◌-◌, ◌≤◌}
 use mathlib.Core.Path.{◌≡◌, refl, sym, ap, ◌∙◌}
 use mathlib.Core.Bool.{Bool, true, false}
 use mathlib.Core.List.{List, []}
-use mathlib.Core.Option.{Option, none, some}
+use Rattle.std.specs.Prelude.{Option, None, Some, Result, Ok, Err}
 use native.Mathlib.Omega.{arith}
 use borrow.Author.Tests.{eqb-false, ltb-false}
 use lib.Dec.{eqb, ltb, leb}
 use lib.ListN.{length}
 use lib.Seq.{length-take-le}
-use Rattle.std.specs.Prelude.{Result, Ok, Err}
 use Rattle.machine.specs.Choice.{pick}
 use Rattle.machine.specs.Machine.{on, rests}
 use Rattle.machine.proofs.Moves.{resting}
@@ -113,12 +112,12 @@ step_range {self} {m} {r = r} {m' = m'} p h = go (refusal (length m) self) refl
 
 -- ---- the calls
 -- what a transfer grants lies within the device, and within what was asked for
-transfer_fits : (d : Device) (k n : ℕ) → transfer d k ≡ some n → (n ≡ 0 → ⊥) → (n ≤ k) × Part d n
+transfer_fits : (d : Device) (k n : ℕ) → transfer d k ≡ Some n → (n ≡ 0 → ⊥) → (n ≤ k) × Part d n
 unfolding transfer
 transfer_fits d k n e some_bytes = go (eqb d.position d.size) (ltb d.size d.position) refl e
   where
     go : (a b : Bool) → ltb d.size d.position ≡ b
-        → pick a (some 0) (pick b none (some (clamped (min k (d.size - d.position))))) ≡ some n → (n ≤ k) × Part d n
+        → pick a (Some 0) (pick b None (Some (clamped (min k (d.size - d.position))))) ≡ Some n → (n ≤ k) × Part d n
     go true b p q = absurd (let z : 0 ≡ n = cc in some_bytes (sym z))
     go false true p q = absurd (let z : ◌≡◌ {A = ℕ} 0 1 = cc in omega arith)
     go false false p q =
@@ -141,17 +140,17 @@ module _ (s : Client) (h : in_range s ≡ true) where
   called_range f k (Err why) = h
 
   sought_range : (d : Device) (o : Option ℕ) → in_range (sought_to s d o).state ≡ true
-  sought_range d none = h
-  sought_range d (some p) = coded_range (Ready (positioned d p)) refl
+  sought_range d None = h
+  sought_range d (Some p) = coded_range (Ready (positioned d p)) refl
 
-  moving_range : (f : ℕ → Call) (k : ℕ) → ((d : Device) (n : ℕ) → transfer d k ≡ some n → (amount (f n) ≡ 0 → ⊥) → GoodCall d (f n))
+  moving_range : (f : ℕ → Call) (k : ℕ) → ((d : Device) (n : ℕ) → transfer d k ≡ Some n → (amount (f n) ≡ 0 → ⊥) → GoodCall d (f n))
       → (m : Result Device Refusal) → in_range (moving s f (granted_on k m)).state ≡ true
   moving_range f k ok (Err why) = h
   moving_range f k ok (Ok d) = at (transfer d k) refl
     where
       at : (o : Option ℕ) → transfer d k ≡ o → in_range (moving s f (granted_at d o)).state ≡ true
-      at none e = h
-      at (some n) e = begun_range d (f n) (ok d n e)
+      at None e = h
+      at (Some n) e = begun_range d (f n) (ok d n e)
 
   shaken_range : (n : ℕ) (x : State) → in_range (shaken_at n s x).state ≡ true
   shaken_range n Blank = go (leb n 4096) refl

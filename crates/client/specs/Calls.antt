@@ -3,7 +3,6 @@
 --   fields_of flags             "Flags set fields only if bit 0 is set"
 --   device size flags          the device as the handshake leaves it, with its position at 0
 --   transfer d k               how many bytes a read, a write or a trim of k bytes moves; none where it is refused
---   transfer_of                 the value that the code's answer stands for
 --   sought d f                 the position that a seek leads to; none where it is refused
 --   amount, payload, wanted    how many bytes a call names in its request, sends behind it, and is sent behind the reply
 --   type_of c, offset_of d c     the type and the offset in a call's request
@@ -11,9 +10,7 @@
 --   value_of c                  the value of a call that succeeds
 --   positioned d p             the device with its position at p
 --   moved d c                  the device after a call that succeeds
-use Rattle.std.specs.Prelude.{ℕ, min, ◌+◌, ◌-◌, ◌/◌, ◌%◌, Bool, List, eqb, ltb}
-use Rattle.std.specs.Prelude as answer
-use Rattle.std.proofs.Math.Option.{Option, none, some}
+use Rattle.std.specs.Prelude.{ℕ, min, ◌+◌, ◌-◌, ◌/◌, ◌%◌, Bool, List, eqb, ltb, Option, None, Some}
 use Rattle.machine.specs.Choice.{pick, both}
 use Rattle.wire.specs.Numbers.{clamped, added}
 use Rattle.wire.specs.Constants.{NBD_FLAG_HAS_FLAGS, NBD_FLAG_READ_ONLY, NBD_FLAG_SEND_FLUSH, NBD_FLAG_ROTATIONAL, NBD_FLAG_SEND_TRIM, NBD_FLAG_SEND_RESIZE, NBD_CMD_READ, NBD_CMD_WRITE, NBD_CMD_FLUSH, NBD_CMD_TRIM, NBD_CMD_RESIZE}
@@ -50,16 +47,12 @@ device size flags = record { size = size; position = 0; fields = fields_of flags
 -- "Transfer n: position = size gives 0; position > size is refused even for an empty buffer; else n = min(buffer length, size - position, 2^32-1)"
 unfoldable pub transfer : Device → ℕ → Option ℕ
 transfer d k =
-    pick (eqb d.position d.size) (some 0)
-    (pick (ltb d.size d.position) none (some (clamped (min k (d.size - d.position)))))
-
-abbrev pub transfer_of : answer.Option ℕ → Option ℕ
-transfer_of (answer.Some n) = some n
-transfer_of answer.None = none
+    pick (eqb d.position d.size) (Some 0)
+    (pick (ltb d.size d.position) None (Some (clamped (min k (d.size - d.position)))))
 
 -- "Seek from the start takes any 64-bit value"
 abbrev pub sought : Device → SeekFrom → Option ℕ
-sought d (Start p) = some p
+sought d (Start p) = Some p
 sought d (Current z) = added d.position z
 sought d (End z) = added d.size z
 

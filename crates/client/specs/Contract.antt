@@ -15,9 +15,8 @@
 --   after x, outcome_of x       where a client stands after a step that went as far as x, and the step's outcome
 --   number_at, values_at         01's number and values for each place where a step ends
 --   Refuses, Accepts, Drives   a step: refused, with nothing changed; or as far as the input and the room go; and which of the two
-use Rattle.std.specs.Prelude.{ℕ, ◌≡◌, List, [], ◌∷◌, eqb, leb, length, Result, Ok, Err}
+use Rattle.std.specs.Prelude.{ℕ, ◌≡◌, List, [], ◌∷◌, eqb, leb, length, Result, Ok, Err, Option, None, Some}
 use Rattle.std.specs.Prelude as told
-use Rattle.std.proofs.Math.Option.{Option, none, some}
 use Rattle.machine.specs.Choice.{pick}
 use Rattle.machine.specs.Machine.{on}
 use Rattle.machine.specs.Pieces.{Steps}
@@ -43,11 +42,11 @@ use Rattle.client.specs.declared.refusal.Refusal.TheVariants.{PastSize, NotNow, 
 
 -- ---- 01's numbers and values: "a call that succeeds answers without a number"
 abbrev pub number_of : Outcome → Option ℕ
-number_of Open = none
-number_of (Succeeded v) = none
-number_of (Failed error) = some 47
-number_of (Ended n) = some n
-number_of (Refused n) = some n
+number_of Open = None
+number_of (Succeeded v) = None
+number_of (Failed error) = Some 47
+number_of (Ended n) = Some n
+number_of (Refused n) = Some n
 
 abbrev pub fields_values : Fields → List ℕ
 fields_values f =
@@ -99,8 +98,8 @@ opened d c = answer (Calling d c (Asking 28)) Open
 
 -- how many bytes a call may move: then 49, "position past size"
 abbrev pub granted_at : Device → Option ℕ → Result Transfer Refusal
-granted_at d none = Err PastSize
-granted_at d (some n) = Ok (record { device = d; n = n })
+granted_at d None = Err PastSize
+granted_at d (Some n) = Ok (record { device = d; n = n })
 
 abbrev pub granted_on : ℕ → Result Device Refusal → Result Transfer Refusal
 granted_on k (Ok d) = granted_at d (transfer d k)
@@ -134,8 +133,8 @@ abbrev pub resizing : ℕ → Client → Called
 resizing size s = called s (λ d. opened d (Resize size)) (call_check s)
 
 abbrev pub sought_to : Client → Device → Option ℕ → Called
-sought_to s d none = refused 48 s
-sought_to s d (some p) = answer (Ready (positioned d p)) (Succeeded (value.Position p))
+sought_to s d None = refused 48 s
+sought_to s d (Some p) = answer (Ready (positioned d p)) (Succeeded (value.Position p))
 
 abbrev pub seeking : SeekFrom → Client → Called
 seeking f s = called s (λ d. sought_to s d (sought d f)) (call_check s)
@@ -197,12 +196,12 @@ outcome_of (Over n) = Ended n
 
 -- and 01's number and values there
 abbrev pub number_at : State → Option ℕ
-number_at Blank = none
-number_at (Shaking n p) = none
-number_at (Ready d) = none
-number_at (Calling d c p) = none
+number_at Blank = None
+number_at (Shaking n p) = None
+number_at (Ready d) = None
+number_at (Calling d c p) = None
 number_at (Closed o d) = number_of o
-number_at (Over n) = some n
+number_at (Over n) = Some n
 
 abbrev pub values_at : State → List ℕ
 values_at Blank = []
@@ -215,7 +214,7 @@ values_at (Over n) = []
 module _ (self : Client) (m input room : List ℕ) (r : Stepped) (m' room' : List ℕ) where
   pub record Refuses : Type 0 where
     pub result : r ≡ record { state = self; taken = 0; given = 0; outcome = Refused (refusal (length m) self) }
-    pub number : number_of r.outcome ≡ some (refusal (length m) self)
+    pub number : number_of r.outcome ≡ Some (refusal (length m) self)
     pub values : values_of r.outcome ≡ []
     pub same_lent : m' ≡ m
     pub same_room : room' ≡ room

@@ -1,9 +1,7 @@
 // The calls: how many bytes they move, their requests, and what a success changes.
 ghost use Rattle.std.specs.Prelude.{◌≡◌};
-ghost use Rattle.wire.specs.Numbers.{sum_of};
 ghost use Rattle.client.specs.Calls.{
   transfer,
-  transfer_of,
   sought,
   amount,
   payload,
@@ -18,7 +16,6 @@ ghost use Rattle.client.specs.Calls.{
 ghost use Rattle.client.specs.Inner.{GoodCall};
 
 use crate::state::{Call, Device, SeekFrom, Value};
-use wire::number::Added;
 use wire::{consts, fields, number};
 
 // ---- before a call is opened
@@ -26,7 +23,7 @@ use wire::{consts, fields, number};
 // How many bytes a read, a write or a trim of k bytes moves. None where the position is past the size.
 #[tactic(auto, unfolding(crate::specs::Calls::transfer))]
 pub fn transfer(d: Device, k: u64) -> Option<u32>
-    ensures { transfer_of result ≡ transfer d k }
+    ensures { result ≡ transfer d k }
 {
     if d.position == d.size {
         return Some(0);
@@ -38,11 +35,11 @@ pub fn transfer(d: Device, k: u64) -> Option<u32>
 }
 
 // Where a seek leads.
-pub fn sought(d: Device, from: SeekFrom) -> Added
-    ensures { sum_of result ≡ sought d from }
+pub fn sought(d: Device, from: SeekFrom) -> Option<u64>
+    ensures { result ≡ sought d from }
 {
     match from {
-        SeekFrom::Start(p) => Added::Sum(p),
+        SeekFrom::Start(p) => Some(p),
         SeekFrom::Current(z) => number::checked_add_i64(d.position, z),
         SeekFrom::End(z) => number::checked_add_i64(d.size, z),
     }

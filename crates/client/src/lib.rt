@@ -37,7 +37,6 @@ ghost use Rattle.client.specs.declared.state.Outcome.TheVariants as outcome;
 
 use refusal::Refusal;
 use state::{Call, Client, Device, Handshake, Outcome, Phase, Progress, SeekFrom, Value};
-use wire::number::Added;
 
 #[derive(Clone, Copy)]
 pub struct Called {
@@ -241,8 +240,8 @@ impl Client {
     {
         match self.call_check() {
             Ok(d) => match calls::sought(d, from) {
-                Added::Sum(p) => ready(calls::positioned(d, p), Value::Position(p)),
-                Added::Outside => refused(self, Refusal::SeekOutside),
+                Some(p) => ready(calls::positioned(d, p), Value::Position(p)),
+                None => refused(self, Refusal::SeekOutside),
             },
             Err(why) => refused(self, why),
         }
