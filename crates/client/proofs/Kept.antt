@@ -1,6 +1,6 @@
 -- What each turn keeps, and so a run of moves.
 --   same_lent    the length of what is lent
---   fine, sound  that the state is sound: within its ranges, or just closed
+--   fine, sound, lasts  that the state is sound: within its ranges, or just closed
 use Prim.Native.Nat.{ℕ, zero, suc, ◌≤◌}
 use mathlib.Core.Path.{◌≡◌, refl, sym, ◌∙◌}
 use mathlib.Core.Bool.{Bool, true, false}
@@ -12,6 +12,7 @@ use lib.ListN.{length, length-set}
 use Rattle.machine.specs.Choice.{pick, both}
 use Rattle.machine.specs.Machine.{On, on, size, Moves, Keeps}
 use Rattle.machine.specs.Parts.{less}
+use Rattle.machine.specs.Inner.{Lasts}
 use Rattle.machine.proofs.Moves.{kept, same_size}
 use Rattle.wire.specs.Fields.{field, same_bytes}
 use Rattle.wire.specs.Constants.{NBDMAGIC, IHAVEOPT, OLDSTYLE, NBD_REPLY_MAGIC}
@@ -152,3 +153,6 @@ fine (on (Over n) m) h = tt
 
 pub sound : {x y : On State} {is os : List ℕ} → Moves turn x is os y → Fine x → Fine y
 sound p h = kept fine p h
+
+pub lasts : {m : List ℕ} {x : State} → Good (length m) x → Lasts Good turn x m
+lasts g y m' is os p = (sound p g, same_lent p)

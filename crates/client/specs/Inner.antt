@@ -2,11 +2,11 @@
 --   Some most left      left is 1 to most
 --   Part d n            there are some bytes from the position on, and none past the size
 --   GoodShaking, GoodCall, GoodProgress   a phase of the handshake, a call and how far it is, within their ranges
---   Absorbed, Emitted, Turned, Advanced   the pieces of machine/specs/Pieces, as the parts of a step answer them
+--   Absorbed, Emitted   the pieces of machine/specs/Pieces, as the parts of a step answer them
 --   Good k x, Fine      a state that a step accepts or that was just closed, with k bytes lent
 use Rattle.std.specs.Prelude.{ℕ, ◌+◌, ◌≤◌, ◌<◌, ◌≡◌, true, List, length}
 use Rattle.machine.specs.Machine.{On, on}
-use Rattle.machine.specs.Pieces.{Absorbs, Emits, Turns, Steps}
+use Rattle.machine.specs.Pieces.{Absorbs, Emits}
 use Rattle.client.specs.Calls.{payload, wanted}
 use Rattle.client.specs.Session.{Handshake, Magic, Style, Newstyle, Hello, Naming, SizeAndFlags, Filler, Progress, Asking, Paying, Hearing, Filling}
 use Rattle.client.specs.Session.{State, Blank, Shaking, Ready, Calling, Closed, Over, size_and_flags_length, turn}
@@ -15,9 +15,9 @@ use Rattle.client.specs.Ranges.{ends, lent_to}
 use Rattle.client.specs.declared.state.Device.{Device}
 use Rattle.client.specs.declared.state.Call.{Call}
 use Rattle.client.specs.declared.state.Call.TheVariants.{Read, Write, Flush, Trim, Resize}
-use Rattle.client.specs.declared.state.Took.{Took}
-use Rattle.client.specs.declared.state.Gave.{Gave}
-use Rattle.client.specs.declared.state.Moved.{Moved}
+use Rattle.client.specs.declared.state.Client.{Client}
+use Rattle.machine.specs.declared.ends.Took.{Took}
+use Rattle.machine.specs.declared.ends.Gave.{Gave}
 
 abbrev pub Some : ℕ → ℕ → Type 0
 Some most left = (0 < left) × (left ≤ most)
@@ -59,14 +59,8 @@ abbrev pub Fine : On State → Type 0
 Fine (on x m) = Good (length m) x
 
 -- ---- the parts of a step: the state, what is lent before, the answer, and what is lent after
-abbrev pub Absorbed : State → List ℕ → List ℕ → Took → List ℕ → Type 0
+abbrev pub Absorbed : State → List ℕ → List ℕ → Took Client → List ℕ → Type 0
 Absorbed x m input r m' = Absorbs turn (on x m) input r.taken (on (view r.state) m')
 
-abbrev pub Emitted : State → List ℕ → List ℕ → Gave → List ℕ → Type 0
+abbrev pub Emitted : State → List ℕ → List ℕ → Gave Client → List ℕ → Type 0
 Emitted x m room r room' = Emits turn (on x m) room r.given (on (view r.state) m) room'
-
-abbrev pub Turned : State → List ℕ → List ℕ → List ℕ → Moved → List ℕ → List ℕ → Type 0
-Turned x m input room r m' room' = Turns turn (on x m) input room r.taken r.given (on (view r.state) m') room'
-
-abbrev pub Advanced : State → List ℕ → List ℕ → List ℕ → Moved → List ℕ → List ℕ → Type 0
-Advanced x m input room r m' room' = Steps turn (on x m) input room r.taken r.given (on (view r.state) m') room'

@@ -26,7 +26,6 @@ ghost use Rattle.client.specs.View.{view_of, filler_of, handshake_of};
 ghost use Rattle.machine.specs.Parts.{blank};
 ghost use Rattle.client.specs.Inner.{Some, GoodShaking, Absorbed, Emitted};
 
-use crate::idle;
 use crate::state::{Client, Device, Fields, Filler, Gave, Handshake, Outcome, Phase, Took, Value};
 use machine::{copy, parts};
 use wire::{consts, fields};
@@ -340,8 +339,8 @@ pub fn absorb(head: [u8; 16], name: usize, p: Handshake, input: &[u8]) -> Took
         Handshake::Magic { have } => take_magic(head, name, have, input),
         Handshake::Style { have } => take_style(head, name, have, input),
         Handshake::Newstyle { left } => skip_flags(head, name, left, input.len()),
-        Handshake::Hello { .. } => idle::takes_none(Phase::Shaking(name, p), head),
-        Handshake::Naming { .. } => idle::takes_none(Phase::Shaking(name, p), head),
+        Handshake::Hello { .. } => Took::none(Client { phase: Phase::Shaking(name, p), head }),
+        Handshake::Naming { .. } => Took::none(Client { phase: Phase::Shaking(name, p), head }),
         Handshake::SizeAndFlags { old, have } => take_size_and_flags(head, name, old, have, input),
         Handshake::Filler(f) => take_filler(head, name, f, input),
     }
@@ -353,12 +352,12 @@ pub fn emit(head: [u8; 16], name: usize, p: Handshake, lent: &[u8], room: &mut [
     ensures { Emitted (Shaking name (handshake_of head p)) lent.now room.old result room.new }
 {
     match p {
-        Handshake::Magic { .. } => idle::gives_none(Phase::Shaking(name, p), head),
-        Handshake::Style { .. } => idle::gives_none(Phase::Shaking(name, p), head),
-        Handshake::Newstyle { .. } => idle::gives_none(Phase::Shaking(name, p), head),
+        Handshake::Magic { .. } => Gave::none(Client { phase: Phase::Shaking(name, p), head }),
+        Handshake::Style { .. } => Gave::none(Client { phase: Phase::Shaking(name, p), head }),
+        Handshake::Newstyle { .. } => Gave::none(Client { phase: Phase::Shaking(name, p), head }),
         Handshake::Hello { left } => send_hello(head, name, left, room),
         Handshake::Naming { left } => send_name(head, name, left, lent, room),
-        Handshake::SizeAndFlags { .. } => idle::gives_none(Phase::Shaking(name, p), head),
-        Handshake::Filler(_) => idle::gives_none(Phase::Shaking(name, p), head),
+        Handshake::SizeAndFlags { .. } => Gave::none(Client { phase: Phase::Shaking(name, p), head }),
+        Handshake::Filler(_) => Gave::none(Client { phase: Phase::Shaking(name, p), head }),
     }
 }

@@ -3,7 +3,6 @@
 
 mod calls;
 mod handshake;
-mod idle;
 mod ranges;
 mod refusal;
 pub mod state;
@@ -35,6 +34,7 @@ ghost use Rattle.client.specs.Contract.{
 };
 ghost use Rattle.client.specs.declared.state.Outcome.TheVariants as outcome;
 
+use machine::ends;
 use refusal::Refusal;
 use state::{Call, Client, Device, Handshake, Outcome, Phase, Progress, SeekFrom, Value};
 
@@ -293,7 +293,7 @@ impl Client {
                 outcome: Outcome::Refused(why.number()),
             };
         }
-        let r = step::advance(self, input, room, lent);
+        let r = ends::advance(self, input, room, b"", lent);
         let end = r.state;
         let p = end.phase;
         let outcome = step::outcome_of(p);

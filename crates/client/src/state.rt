@@ -1,5 +1,7 @@
 // Where a session stands. The phases are named as in specs/Session.antt; docs/STATES.md has their ranges.
 
+use machine::ends;
+
 // What the export's flags say.
 #[derive(Clone, Copy)]
 pub struct Fields {
@@ -123,21 +125,6 @@ pub struct Client {
 
 // ---- what the parts of a step answer
 
-#[derive(Clone, Copy)]
-pub struct Took {
-    pub state: Client,
-    pub taken: usize,
-}
+pub type Took = ends::Took<Client>;
 
-#[derive(Clone, Copy)]
-pub struct Gave {
-    pub state: Client,
-    pub given: usize,
-}
-
-#[derive(Clone, Copy)]
-pub struct Moved {
-    pub state: Client,
-    pub taken: usize,
-    pub given: usize,
-}
+pub type Gave = ends::Gave<Client>;

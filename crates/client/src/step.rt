@@ -1,87 +1,52 @@
-// A step: it takes and gives, phase by phase, as far as the input and the room go.
-ghost use Rattle.std.specs.Prelude.{◌≡◌, List, ℕ, ◌≤◌, length};
+// A step: it takes and gives, phase by phase, as far as the input and the room go (machine::ends::advance).
+ghost use Rattle.std.specs.Prelude.{◌≡◌, List, ℕ, ◌≤◌};
+ghost use Rattle.client.specs.Session.{State, turn};
 ghost use Rattle.client.specs.View.{view, view_of, code, used};
-ghost use Rattle.client.specs.Inner.{Good, Absorbed, Emitted, Turned, Advanced};
+ghost use Rattle.client.specs.Inner.{Good};
 ghost use Rattle.client.specs.Contract.{after, outcome_of};
 
-use crate::state::{Client, Gave, Moved, Outcome, Phase, Took};
-use crate::{handshake, idle, ranges, transmission};
+use crate::state::{Client, Gave, Outcome, Phase, Took};
+use crate::{handshake, ranges, transmission};
 use machine::copy;
+use machine::ends::End;
 
-// Takes what the phase takes of the input.
-fn absorb(s: Client, input: &[u8], lent: &mut [u8]) -> Took
-    requires { Good (length lent.old) (view s) }
-    ensures { Absorbed (view s) lent.old input.now result lent.new }
-{
-    if input.len() == 0 {
-        return Took { state: s, taken: 0 };
-    }
-    let head = s.head;
-    let p = s.phase;
-    match p {
-        Phase::Blank => idle::takes_none(p, head),
-        Phase::Shaking(name, h) => handshake::absorb(head, name, h, input),
-        Phase::Ready(_) => idle::takes_none(p, head),
-        Phase::Calling(d, c, g) => transmission::absorb(head, d, c, g, input, lent),
-        Phase::Closed(_, _) => idle::takes_none(p, head),
-        Phase::Over(_) => idle::takes_none(p, head),
-    }
-}
+impl End for Client {
+    ghost Place = { State };
 
-// Gives what the phase owes into the room.
-fn emit(s: Client, room: &mut [u8], lent: &[u8]) -> Gave
-    requires { Good (length lent.now) (view s) }
-    ensures { Emitted (view s) lent.now room.old result room.new }
-{
-    let head = s.head;
-    let p = s.phase;
-    match p {
-        Phase::Blank => idle::gives_none(p, head),
-        Phase::Shaking(name, h) => handshake::emit(head, name, h, lent, room),
-        Phase::Ready(_) => idle::gives_none(p, head),
-        Phase::Calling(d, c, g) => transmission::emit(head, d, c, g, lent, room),
-        Phase::Closed(_, _) => idle::gives_none(p, head),
-        Phase::Over(_) => idle::gives_none(p, head),
-    }
-}
+    ghost view = { view };
 
-// Takes, and then gives, as far as one phase goes each.
-fn turn(s: Client, input: &[u8], room: &mut [u8], lent: &mut [u8]) -> Moved
-    requires { Good (length lent.old) (view s) }
-    ensures { Turned (view s) lent.old input.now room.old result lent.new room.new }
-{
-    let t = absorb(s, input, lent);
-    let mid = t.state;
-    let g = emit(mid, room, lent);
-    let state = g.state;
-    Moved {
-        state,
-        taken: t.taken,
-        given: g.given,
-    }
-}
+    ghost machine = { λ _. turn };
 
-// Takes and gives as far as the input and the room go.
-pub fn advance(s: Client, input: &[u8], room: &mut [u8], lent: &mut [u8]) -> Moved
-    requires { Good (length lent.old) (view s) }
-    ensures { Advanced (view s) lent.old input.now room.old result lent.new room.new }
-{
-    let mut at = s;
-    let mut i = 0;
-    let mut o = 0;
-    loop {
-        let r = turn(at, &input[i..], &mut room[o..], lent);
-        at = r.state;
-        i += r.taken;
-        o += r.given;
-        if r.taken + r.given == 0 {
-            break;
+    ghost Good = { λ _. Good };
+
+    // Nothing but the name or the call's buffer is lent.
+    fn absorb(self, input: &[u8], _none: &[u8], lent: &mut [u8]) -> Took {
+        if input.len() == 0 {
+            return Took::none(self);
+        }
+        let head = self.head;
+        let p = self.phase;
+        match p {
+            Phase::Blank => Took::none(self),
+            Phase::Shaking(name, h) => handshake::absorb(head, name, h, input),
+            Phase::Ready(_) => Took::none(self),
+            Phase::Calling(d, c, g) => transmission::absorb(head, d, c, g, input, lent),
+            Phase::Closed(_, _) => Took::none(self),
+            Phase::Over(_) => Took::none(self),
         }
     }
-    Moved {
-        state: at,
-        taken: i,
-        given: o,
+
+    fn emit(self, room: &mut [u8], _none: &[u8], lent: &[u8]) -> Gave {
+        let head = self.head;
+        let p = self.phase;
+        match p {
+            Phase::Blank => Gave::none(self),
+            Phase::Shaking(name, h) => handshake::emit(head, name, h, lent, room),
+            Phase::Ready(_) => Gave::none(self),
+            Phase::Calling(d, c, g) => transmission::emit(head, d, c, g, lent, room),
+            Phase::Closed(_, _) => Gave::none(self),
+            Phase::Over(_) => Gave::none(self),
+        }
     }
 }
 

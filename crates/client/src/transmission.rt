@@ -19,7 +19,7 @@ ghost use Rattle.client.specs.Ranges.{lent_to};
 ghost use Rattle.client.specs.Inner.{Some, GoodCall, GoodProgress, Absorbed, Emitted};
 
 use crate::state::{Call, Client, Device, Gave, Outcome, Phase, Progress, Took};
-use crate::{calls, idle};
+use crate::calls;
 use machine::{copy, parts};
 use wire::{consts, fields};
 
@@ -172,8 +172,8 @@ pub fn absorb(
     ensures { Absorbed (Calling d c (progress_of head p)) lent.old input.now result lent.new }
 {
     match p {
-        Progress::Asking { .. } => idle::takes_none(Phase::Calling(d, c, p), head),
-        Progress::Paying { .. } => idle::takes_none(Phase::Calling(d, c, p), head),
+        Progress::Asking { .. } => Took::none(Client { phase: Phase::Calling(d, c, p), head }),
+        Progress::Paying { .. } => Took::none(Client { phase: Phase::Calling(d, c, p), head }),
         Progress::Hearing { have } => hear(head, d, c, have, input),
         Progress::Filling { left } => fill(head, d, c, left, input, lent),
     }
@@ -187,7 +187,7 @@ pub fn emit(head: [u8; 16], d: Device, c: Call, p: Progress, lent: &[u8], room: 
     match p {
         Progress::Asking { left } => send_request(head, d, c, left, room),
         Progress::Paying { left } => pay(head, d, c, left, lent, room),
-        Progress::Hearing { .. } => idle::gives_none(Phase::Calling(d, c, p), head),
-        Progress::Filling { .. } => idle::gives_none(Phase::Calling(d, c, p), head),
+        Progress::Hearing { .. } => Gave::none(Client { phase: Phase::Calling(d, c, p), head }),
+        Progress::Filling { .. } => Gave::none(Client { phase: Phase::Calling(d, c, p), head }),
     }
 }

@@ -1,6 +1,7 @@
 // One end of a wire, as a host runs it: it takes input and gives output phase by phase, as far as both go. The step is written once, for every end.
 ghost use Rattle.std.specs.Prelude.{◌≡◌, ◌≤◌, List, ℕ, length};
-ghost use Rattle.machine.specs.Machine.{Turn, On, on, Moves};
+ghost use Rattle.machine.specs.Machine.{Turn, On, on};
+ghost use Rattle.machine.specs.Inner.{Lasts};
 ghost use Rattle.machine.specs.Pieces.{Absorbs, Emits, Turns, Steps};
 
 // What was taken of the input, and where the end stands then.
@@ -64,15 +65,11 @@ pub trait End: Copy {
     fn emit(self, room: &mut [u8], still: &[u8], lent: &[u8]) -> Gave<Self>
         requires { Good still.now (length lent.now) (view self) }
         ensures { Emits (machine still.now) (on (view self) lent.now) room.old result.given (on (view result.state) lent.now) room.new };
-
-    // wherever moves lead, a step may start, and as many bytes are lent
-    ghost keeps: { (still : List ℕ) (x y : Place) (m m' is os : List ℕ) → Good still (length m) x
-        → Moves (machine still) (on x m) is os (on y m') → Good still (length m') y × (length m' ≡ length m) };
 }
 
 // Takes, and then gives, as far as one phase goes each.
 fn turn<E: End>(s: E, input: &[u8], room: &mut [u8], still: &[u8], lent: &mut [u8]) -> Moved<E>
-    requires { E.Good still.now (length lent.old) (E.view s) }
+    requires { Lasts (E.Good still.now) (E.machine still.now) (E.view s) lent.old }
     ensures { Turns (E.machine still.now) (on (E.view s) lent.old) input.now room.old result.taken result.given (on (E.view result.state) lent.new) room.new }
 {
     let took = s.absorb(input, still, lent);
@@ -92,7 +89,7 @@ pub fn advance<E: End>(
     still: &[u8],
     lent: &mut [u8],
 ) -> Moved<E>
-    requires { E.Good still.now (length lent.old) (E.view s) }
+    requires { Lasts (E.Good still.now) (E.machine still.now) (E.view s) lent.old }
     ensures { Steps (E.machine still.now) (on (E.view s) lent.old) input.now room.old result.taken result.given (on (E.view result.state) lent.new) room.new }
 {
     let mut at = s;

@@ -1,6 +1,6 @@
 -- What each turn keeps: the image's length, and that a step would not be refused.
 --   picked                  what is picked has what both have
---   kept_good, still_good, next_good   a state that a step accepts leads to such states, with the same table and an image as long
+--   kept_good, still_good, next_good, lasts   a state that a step accepts leads to such states, with the same table and an image as long
 use Prim.Native.Nat.{ℕ, zero, suc, ◌+◌, ◌≤◌, ◌<◌}
 use mathlib.Core.Path.{◌≡◌, refl, ◌∙◌}
 use mathlib.Core.Bool.{Bool, true, false, not}
@@ -13,6 +13,7 @@ use lib.ListN.{length, length-set}
 use Rattle.machine.specs.Choice.{pick, between}
 use Rattle.machine.specs.Machine.{On, on, Keeps, Moves}
 use Rattle.machine.specs.Parts.{less}
+use Rattle.machine.specs.Inner.{Lasts}
 use Rattle.machine.proofs.Moves.{kept}
 use Rattle.wire.specs.Fields.{number, field, same_bytes}
 use Rattle.wire.specs.Constants.{IHAVEOPT, NBD_REQUEST_MAGIC}
@@ -282,3 +283,6 @@ still_good {t} {m} p g = kept {P = Stands t (length m)} (kept_good t (length m))
 
 pub next_good : {t m m' is os : List ℕ} {x y : State} → Moves (turn t) (on x m) is os (on y m') → Good t (length m) x → Good t (length m') y
 next_good p g = let k = still_good p g in rw k.0 k.1
+
+pub lasts : {t m : List ℕ} {x : State} → Good t (length m) x → Lasts (Good t) (turn t) x m
+lasts g y m' is os p = (next_good p g, (still_good p g).0)

@@ -5,22 +5,22 @@
 --   with_left p n   the state where so many are
 --   Owes           what the code computes of them: the reply in front of an array
 --   Good t n x     a state that a step accepts, with the table t and an image of n bytes
---   Absorbed, Emitted, Turned, Advanced   the pieces of machine/specs/Pieces, as the parts of a step answer them
+--   Absorbed, Emitted   the pieces of machine/specs/Pieces, as the parts of a step answer them
 --   Stored, Sent   payload into the window, and bytes of the window into the room
 use Rattle.std.specs.Prelude.{ℕ, min, ◌+◌, ◌-◌, ◌≡◌, true, List, [], ltb, length, take, drop}
 use Rattle.std.proofs.Math.Seq.{paste}
 use Rattle.machine.specs.Choice.{pick}
 use Rattle.machine.specs.Machine.{on}
-use Rattle.machine.specs.Pieces.{Absorbs, Emits, Turns, Steps}
+use Rattle.machine.specs.Pieces.{Absorbs, Emits}
 use Rattle.wire.specs.Layouts.{greeting}
 use Rattle.wire.specs.declared.table.Export.{Export}
 use Rattle.server.specs.Session.{Handshake, Greeting, ClientFlags, OptionHead, Naming, Passing, Listing, Declining, Aborting, Exporting}
 use Rattle.server.specs.Session.{State, Shaking, list_replies, declined, aborted, exported, greeted, listing, declining, aborting, exporting, storing, sending, turn}
 use Rattle.server.specs.View.{view}
 use Rattle.server.specs.Ranges.{ranged, loan_fault}
-use Rattle.server.specs.declared.state.Took.{Took}
-use Rattle.server.specs.declared.state.Gave.{Gave}
-use Rattle.server.specs.declared.state.Moved.{Moved}
+use Rattle.machine.specs.declared.ends.Took.{Took}
+use Rattle.machine.specs.declared.ends.Gave.{Gave}
+use Rattle.server.specs.declared.state.Server.{Server}
 
 -- a state that a step accepts
 pub record Good (t : List ℕ) (n : ℕ) (x : State) : Type 0 where
@@ -28,17 +28,11 @@ pub record Good (t : List ℕ) (n : ℕ) (x : State) : Type 0 where
   pub fits : loan_fault t n x ≡ 0
 
 -- ---- the parts of a step: the table, the state, the image and what else is lent before, the answer, and what is lent after
-abbrev pub Absorbed : List ℕ → State → List ℕ → List ℕ → Took → List ℕ → Type 0
+abbrev pub Absorbed : List ℕ → State → List ℕ → List ℕ → Took Server → List ℕ → Type 0
 Absorbed t x m input r m' = Absorbs (turn t) (on x m) input r.taken (on (view r.state) m')
 
-abbrev pub Emitted : List ℕ → State → List ℕ → List ℕ → Gave → List ℕ → Type 0
+abbrev pub Emitted : List ℕ → State → List ℕ → List ℕ → Gave Server → List ℕ → Type 0
 Emitted t x m room r room' = Emits (turn t) (on x m) room r.given (on (view r.state) m) room'
-
-abbrev pub Turned : List ℕ → State → List ℕ → List ℕ → List ℕ → Moved → List ℕ → List ℕ → Type 0
-Turned t x m input room r m' room' = Turns (turn t) (on x m) input room r.taken r.given (on (view r.state) m') room'
-
-abbrev pub Advanced : List ℕ → State → List ℕ → List ℕ → List ℕ → Moved → List ℕ → List ℕ → Type 0
-Advanced t x m input room r m' room' = Steps (turn t) (on x m) input room r.taken r.given (on (view r.state) m') room'
 
 -- ---- headers
 abbrev pub option_until : ℕ → ℕ

@@ -8,7 +8,7 @@ ghost use Rattle.server.specs.Contract.{owes_output};
 ghost use Rattle.server.specs.Inner.{reply_of, left_of, with_left, Owes, Absorbed, Emitted};
 
 use crate::state::{Gave, Handshake, Phase, Server, Took};
-use crate::{idle, options, ranges};
+use crate::{options, ranges};
 use machine::{copy, parts};
 use wire::{consts, fields};
 
@@ -200,11 +200,26 @@ pub fn absorb(head: [u8; 28], p: Handshake, table: &[u8], input: &[u8]) -> Took
             len,
             left,
         } => options::pass(head, zeroes, option, len, left, input.len()),
-        Handshake::Greeting { .. } => idle::takes_none(Phase::Shaking(p), head),
-        Handshake::Listing { .. } => idle::takes_none(Phase::Shaking(p), head),
-        Handshake::Declining { .. } => idle::takes_none(Phase::Shaking(p), head),
-        Handshake::Aborting { .. } => idle::takes_none(Phase::Shaking(p), head),
-        Handshake::Exporting { .. } => idle::takes_none(Phase::Shaking(p), head),
+        Handshake::Greeting { .. } => Took::none(Server {
+            phase: Phase::Shaking(p),
+            head,
+        }),
+        Handshake::Listing { .. } => Took::none(Server {
+            phase: Phase::Shaking(p),
+            head,
+        }),
+        Handshake::Declining { .. } => Took::none(Server {
+            phase: Phase::Shaking(p),
+            head,
+        }),
+        Handshake::Aborting { .. } => Took::none(Server {
+            phase: Phase::Shaking(p),
+            head,
+        }),
+        Handshake::Exporting { .. } => Took::none(Server {
+            phase: Phase::Shaking(p),
+            head,
+        }),
     }
 }
 

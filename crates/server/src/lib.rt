@@ -2,7 +2,6 @@
 #![tactic(auto)]
 
 mod handshake;
-mod idle;
 pub mod oldstyle;
 mod options;
 mod ranges;
@@ -17,6 +16,7 @@ ghost use Rattle.server.specs.Session.{Greeting, Shaking};
 ghost use Rattle.server.specs.View.{code};
 ghost use Rattle.server.specs.Contract.{cut_off, Serves, Closes};
 
+use machine::ends;
 use refusal::Refusal;
 use state::{Handshake, Outcome, Phase, Server};
 
@@ -78,7 +78,7 @@ impl Server {
                 outcome: Outcome::Refused(why.number()),
             };
         }
-        let r = step::advance(self, input, room, table, image);
+        let r = ends::advance(self, input, room, table, image);
         let state = step::canonical(r.state);
         let outcome = step::outcome_of(state);
         Stepped {

@@ -1,4 +1,5 @@
 // Where a session stands. The phases are named as in specs/Session.antt; docs/STATES.md has their ranges.
+use machine::ends;
 use wire::table::Export;
 use wire::utf8::Utf8;
 
@@ -111,21 +112,6 @@ pub enum Outcome {
 
 // ---- what the parts of a step answer
 
-#[derive(Clone, Copy)]
-pub struct Took {
-    pub state: Server,
-    pub taken: usize,
-}
+pub type Took = ends::Took<Server>;
 
-#[derive(Clone, Copy)]
-pub struct Gave {
-    pub state: Server,
-    pub given: usize,
-}
-
-#[derive(Clone, Copy)]
-pub struct Moved {
-    pub state: Server,
-    pub taken: usize,
-    pub given: usize,
-}
+pub type Gave = ends::Gave<Server>;

@@ -1,84 +1,46 @@
-// A step: it takes and gives, phase by phase, as far as the input and the room go.
-ghost use Rattle.std.specs.Prelude.{◌≡◌, ◌≤◌, length};
-ghost use Rattle.server.specs.View.{view, code};
-ghost use Rattle.server.specs.View.{used};
-ghost use Rattle.server.specs.Inner.{Good, Absorbed, Emitted, Turned, Advanced};
+// A step: it takes and gives, phase by phase, as far as the input and the room go (machine::ends::advance).
+ghost use Rattle.std.specs.Prelude.{◌≡◌, ◌≤◌};
+ghost use Rattle.server.specs.Session.{State, turn};
+ghost use Rattle.server.specs.View.{view, code, used};
+ghost use Rattle.server.specs.Inner.{Good};
 ghost use Rattle.server.specs.Contract.{outcome_of};
 
-use crate::state::{Gave, Moved, Outcome, Phase, Server, Took};
-use crate::{handshake, idle, ranges, transmission};
+use crate::state::{Gave, Outcome, Phase, Server, Took};
+use crate::{handshake, ranges, transmission};
 use machine::copy;
+use machine::ends::End;
 
-// Takes what the phase takes of the input.
-fn absorb(s: Server, input: &[u8], table: &[u8], image: &mut [u8]) -> Took
-    requires { Good table.now (length image.old) (view s) }
-    ensures { Absorbed table.now (view s) image.old input.now result image.new }
-{
-    if input.len() == 0 {
-        return Took { state: s, taken: 0 };
-    }
-    let head = s.head;
-    let p = s.phase;
-    match p {
-        Phase::Shaking(h) => handshake::absorb(head, h, table, input),
-        Phase::Serving(e, t) => transmission::absorb(head, e, t, input, image),
-        Phase::Over(_) => idle::takes_none(p, head),
-    }
-}
+impl End for Server {
+    ghost Place = { State };
 
-// Gives what the phase owes into the room.
-fn emit(s: Server, room: &mut [u8], table: &[u8], image: &[u8]) -> Gave
-    requires { Good table.now (length image.now) (view s) }
-    ensures { Emitted table.now (view s) image.now room.old result room.new }
-{
-    let head = s.head;
-    let p = s.phase;
-    match p {
-        Phase::Shaking(h) => handshake::emit(head, h, room),
-        Phase::Serving(e, t) => transmission::emit(head, e, t, room, image),
-        Phase::Over(_) => idle::gives_none(p, head),
-    }
-}
+    ghost view = { view };
 
-// Takes, and then gives, as far as one phase goes each.
-fn turn(s: Server, input: &[u8], room: &mut [u8], table: &[u8], image: &mut [u8]) -> Moved
-    requires { Good table.now (length image.old) (view s) }
-    ensures { Turned table.now (view s) image.old input.now room.old
-        result image.new room.new }
-{
-    let t = absorb(s, input, table, image);
-    let mid = t.state;
-    let g = emit(mid, room, table, image);
-    let state = g.state;
-    Moved {
-        state,
-        taken: t.taken,
-        given: g.given,
-    }
-}
+    ghost machine = { turn };
 
-// Takes and gives as far as the input and the room go.
-pub fn advance(s: Server, input: &[u8], room: &mut [u8], table: &[u8], image: &mut [u8]) -> Moved
-    requires { Good table.now (length image.old) (view s) }
-    ensures { Advanced table.now (view s) image.old input.now room.old
-        result image.new room.new }
-{
-    let mut at = s;
-    let mut i = 0;
-    let mut o = 0;
-    loop {
-        let r = turn(at, &input[i..], &mut room[o..], table, image);
-        at = r.state;
-        i += r.taken;
-        o += r.given;
-        if r.taken + r.given == 0 {
-            break;
+    ghost Good = { Good };
+
+    // What is lent to be read is the table, and the rest the image.
+    fn absorb(self, input: &[u8], table: &[u8], image: &mut [u8]) -> Took {
+        if input.len() == 0 {
+            return Took::none(self);
+        }
+        let head = self.head;
+        let p = self.phase;
+        match p {
+            Phase::Shaking(h) => handshake::absorb(head, h, table, input),
+            Phase::Serving(e, t) => transmission::absorb(head, e, t, input, image),
+            Phase::Over(_) => Took::none(self),
         }
     }
-    Moved {
-        state: at,
-        taken: i,
-        given: o,
+
+    fn emit(self, room: &mut [u8], _table: &[u8], image: &[u8]) -> Gave {
+        let head = self.head;
+        let p = self.phase;
+        match p {
+            Phase::Shaking(h) => handshake::emit(head, h, room),
+            Phase::Serving(e, t) => transmission::emit(head, e, t, room, image),
+            Phase::Over(_) => Gave::none(self),
+        }
     }
 }
 

@@ -18,9 +18,9 @@ ghost use Rattle.server.specs.Ranges.{ranged_serving};
 ghost use Rattle.server.specs.Contract.{owes_output};
 ghost use Rattle.server.specs.Inner.{request_until, Stored, Sent, Absorbed, Emitted};
 
+use crate::request;
 use crate::request::{Answer, Request};
 use crate::state::{Gave, Phase, Server, Took, Transmission};
-use crate::{idle, request};
 use machine::{copy, parts};
 use wire::table::Export;
 use wire::{consts, fields};
@@ -257,8 +257,14 @@ pub fn absorb(head: [u8; 28], e: Export, p: Transmission, input: &[u8], image: &
             handle,
             left,
         } => discard(head, e, error, handle, left, input.len()),
-        Transmission::Replying { .. } => idle::takes_none(Phase::Serving(e, p), head),
-        Transmission::Sending { .. } => idle::takes_none(Phase::Serving(e, p), head),
+        Transmission::Replying { .. } => Took::none(Server {
+            phase: Phase::Serving(e, p),
+            head,
+        }),
+        Transmission::Sending { .. } => Took::none(Server {
+            phase: Phase::Serving(e, p),
+            head,
+        }),
     }
 }
 
@@ -280,8 +286,17 @@ pub fn emit(head: [u8; 28], e: Export, p: Transmission, room: &mut [u8], image: 
             let b = a + e.size as usize;
             send(head, e, off, left, &image[a..b], room)
         }
-        Transmission::Header { .. } => idle::gives_none(Phase::Serving(e, p), head),
-        Transmission::Storing { .. } => idle::gives_none(Phase::Serving(e, p), head),
-        Transmission::Dropping { .. } => idle::gives_none(Phase::Serving(e, p), head),
+        Transmission::Header { .. } => Gave::none(Server {
+            phase: Phase::Serving(e, p),
+            head,
+        }),
+        Transmission::Storing { .. } => Gave::none(Server {
+            phase: Phase::Serving(e, p),
+            head,
+        }),
+        Transmission::Dropping { .. } => Gave::none(Server {
+            phase: Phase::Serving(e, p),
+            head,
+        }),
     }
 }

@@ -32,10 +32,10 @@ pub returns-in-Newstyle : goal.returns-in-Newstyle
 returns-in-Newstyle c = λ m. rw c.in-Newstyle.is (c.skip_flags.ensures m _ refl)
 
 pub returns-in-Hello : goal.returns-in-Hello
-returns-in-Hello c = λ m. rw c.takes_none.ensures (absorbs_idle (rw c.in-Hello.is))
+returns-in-Hello c = λ m. rw c.none.ensures (absorbs_idle (rw c.in-Hello.is))
 
 pub returns-in-Naming : goal.returns-in-Naming
-returns-in-Naming c = λ m. rw c.takes_none-in-Naming.ensures (absorbs_idle (rw c.in-Naming.is))
+returns-in-Naming c = λ m. rw c.none-in-Naming.ensures (absorbs_idle (rw c.in-Naming.is))
 
 pub returns-in-SizeAndFlags : goal.returns-in-SizeAndFlags
 returns-in-SizeAndFlags c = λ m. rw c.in-SizeAndFlags.is (c.take_size_and_flags.ensures m)

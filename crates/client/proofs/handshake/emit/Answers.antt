@@ -9,13 +9,13 @@ pub send_name-requires : goal.send_name-requires
 send_name-requires c = let s = rw c.in-Naming.is at c.requires in (s.0, s.2)
 
 pub returns-in-Magic : goal.returns-in-Magic
-returns-in-Magic c = rw c.gives_none.ensures (emits_idle (rw c.in-Magic.is))
+returns-in-Magic c = rw c.none.ensures (emits_idle (rw c.in-Magic.is))
 
 pub returns-in-Style : goal.returns-in-Style
-returns-in-Style c = rw c.gives_none-in-Style.ensures (emits_idle (rw c.in-Style.is))
+returns-in-Style c = rw c.none-in-Style.ensures (emits_idle (rw c.in-Style.is))
 
 pub returns-in-Newstyle : goal.returns-in-Newstyle
-returns-in-Newstyle c = rw c.gives_none-in-Newstyle.ensures (emits_idle (rw c.in-Newstyle.is))
+returns-in-Newstyle c = rw c.none-in-Newstyle.ensures (emits_idle (rw c.in-Newstyle.is))
 
 pub returns-in-Hello : goal.returns-in-Hello
 returns-in-Hello c = rw c.in-Hello.is (c.send_hello.ensures _)
@@ -24,7 +24,7 @@ pub returns-in-Naming : goal.returns-in-Naming
 returns-in-Naming c = rw c.in-Naming.is c.send_name.ensures
 
 pub returns-in-SizeAndFlags : goal.returns-in-SizeAndFlags
-returns-in-SizeAndFlags c = rw c.gives_none-in-SizeAndFlags.ensures (emits_idle (rw c.in-SizeAndFlags.is))
+returns-in-SizeAndFlags c = rw c.none-in-SizeAndFlags.ensures (emits_idle (rw c.in-SizeAndFlags.is))
 
 pub returns-in-Filler : goal.returns-in-Filler
-returns-in-Filler c = rw c.gives_none-in-Filler.ensures (emits_idle (rw c.in-Filler.is))
+returns-in-Filler c = rw c.none-in-Filler.ensures (emits_idle (rw c.in-Filler.is))

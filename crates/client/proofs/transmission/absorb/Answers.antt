@@ -15,10 +15,10 @@ pub fill-requires : goal.fill-requires
 fill-requires c = let s = rw c.in-Filling.is at c.requires in (s.2, filled c.args.d c.args.c s.1 s.2, s.3)
 
 pub returns-in-Asking : goal.returns-in-Asking
-returns-in-Asking c = rw c.takes_none.ensures (absorbs_idle (rw c.in-Asking.is))
+returns-in-Asking c = rw c.none.ensures (absorbs_idle (rw c.in-Asking.is))
 
 pub returns-in-Paying : goal.returns-in-Paying
-returns-in-Paying c = rw c.takes_none-in-Paying.ensures (absorbs_idle (rw c.in-Paying.is))
+returns-in-Paying c = rw c.none-in-Paying.ensures (absorbs_idle (rw c.in-Paying.is))
 
 pub returns-in-Hearing : goal.returns-in-Hearing
 returns-in-Hearing c = rw c.in-Hearing.is (c.hear.ensures _)

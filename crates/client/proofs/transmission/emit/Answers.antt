@@ -16,7 +16,7 @@ pub returns-in-Paying : goal.returns-in-Paying
 returns-in-Paying c = rw c.in-Paying.is c.pay.ensures
 
 pub returns-in-Hearing : goal.returns-in-Hearing
-returns-in-Hearing c = rw c.gives_none.ensures (emits_idle (rw c.in-Hearing.is))
+returns-in-Hearing c = rw c.none.ensures (emits_idle (rw c.in-Hearing.is))
 
 pub returns-in-Filling : goal.returns-in-Filling
-returns-in-Filling c = rw c.gives_none-in-Filling.ensures (emits_idle (rw c.in-Filling.is))
+returns-in-Filling c = rw c.none-in-Filling.ensures (emits_idle (rw c.in-Filling.is))

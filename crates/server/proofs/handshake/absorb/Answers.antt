@@ -35,16 +35,16 @@ pub returns-in-Passing : goal.returns-in-Passing
 returns-in-Passing c = λ m. rw c.in-Passing.is (c.pass.ensures _ m _ refl)
 
 pub returns-in-Greeting : goal.returns-in-Greeting
-returns-in-Greeting c = λ m. rw c.takes_none.ensures (absorbs_idle (rw c.in-Greeting.is))
+returns-in-Greeting c = λ m. rw c.none.ensures (absorbs_idle (rw c.in-Greeting.is))
 
 pub returns-in-Listing : goal.returns-in-Listing
-returns-in-Listing c = λ m. rw c.takes_none-in-Listing.ensures (absorbs_idle (rw c.in-Listing.is))
+returns-in-Listing c = λ m. rw c.none-in-Listing.ensures (absorbs_idle (rw c.in-Listing.is))
 
 pub returns-in-Declining : goal.returns-in-Declining
-returns-in-Declining c = λ m. rw c.takes_none-in-Declining.ensures (absorbs_idle (rw c.in-Declining.is))
+returns-in-Declining c = λ m. rw c.none-in-Declining.ensures (absorbs_idle (rw c.in-Declining.is))
 
 pub returns-in-Aborting : goal.returns-in-Aborting
-returns-in-Aborting c = λ m. rw c.takes_none-in-Aborting.ensures (absorbs_idle (rw c.in-Aborting.is))
+returns-in-Aborting c = λ m. rw c.none-in-Aborting.ensures (absorbs_idle (rw c.in-Aborting.is))
 
 pub returns-in-Exporting : goal.returns-in-Exporting
-returns-in-Exporting c = λ m. rw c.takes_none-in-Exporting.ensures (absorbs_idle (rw c.in-Exporting.is))
+returns-in-Exporting c = λ m. rw c.none-in-Exporting.ensures (absorbs_idle (rw c.in-Exporting.is))

@@ -35,7 +35,7 @@ pub returns-in-Dropping : goal.returns-in-Dropping
 returns-in-Dropping c = λ t. rw c.in-Dropping.is (c.discard.ensures t _ _ refl)
 
 pub returns-in-Replying : goal.returns-in-Replying
-returns-in-Replying c = λ t. rw c.takes_none.ensures (absorbs_idle (rw c.in-Replying.is))
+returns-in-Replying c = λ t. rw c.none.ensures (absorbs_idle (rw c.in-Replying.is))
 
 pub returns-in-Sending : goal.returns-in-Sending
-returns-in-Sending c = λ t. rw c.takes_none-in-Sending.ensures (absorbs_idle (rw c.in-Sending.is))
+returns-in-Sending c = λ t. rw c.none-in-Sending.ensures (absorbs_idle (rw c.in-Sending.is))

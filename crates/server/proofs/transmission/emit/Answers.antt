@@ -28,10 +28,10 @@ returns-in-Sending c =
     λ t. rw c.in-Sending.is (send_leaf t a.e c.in-Sending.off c.in-Sending.left a.image.now c.requires.1 b.0 b.1 (rw k at c.send.ensures))
 
 pub returns-in-Header : goal.returns-in-Header
-returns-in-Header c = λ t. rw c.gives_none.ensures (emits_idle (rw c.in-Header.is))
+returns-in-Header c = λ t. rw c.none.ensures (emits_idle (rw c.in-Header.is))
 
 pub returns-in-Storing : goal.returns-in-Storing
-returns-in-Storing c = λ t. rw c.gives_none-in-Storing.ensures (emits_idle (rw c.in-Storing.is))
+returns-in-Storing c = λ t. rw c.none-in-Storing.ensures (emits_idle (rw c.in-Storing.is))
 
 pub returns-in-Dropping : goal.returns-in-Dropping
-returns-in-Dropping c = λ t. rw c.gives_none-in-Dropping.ensures (emits_idle (rw c.in-Dropping.is))
+returns-in-Dropping c = λ t. rw c.none-in-Dropping.ensures (emits_idle (rw c.in-Dropping.is))

@@ -3,12 +3,12 @@ use mathlib.Core.Path.{sym}
 use borrow.Author.Rules.{rules}
 use lib.ListN.{length}
 use Rattle.client.proofs.Refusals.{accepted}
-use Rattle.client.proofs.Kept.{sound}
+use Rattle.client.proofs.Kept.{sound, lasts}
 use Rattle.client.proofs.Tidy.{used_fits}
 use Rattle.client.proofs.state.Client.step.Goals as goal
 
 pub advance-r-requires : goal.advance-r-requires
-advance-r-requires c = accepted (length c.args.lent.now) c.args.self (sym c.in_default.ensures)
+advance-r-requires c = lasts (accepted (length c.args.lent.now) c.args.self (sym c.in_default.ensures))
 
 pub canonical-state-requires : goal.canonical-state-requires
 canonical-state-requires c =

@@ -5,10 +5,13 @@ use lib.ListN.{length}
 use Rattle.server.specs.View.{view, code}
 use Rattle.server.proofs.Tidy.{used_fits, stands_for}
 use Rattle.server.specs.Contract.{number_of}
-use Rattle.server.proofs.Kept.{next_good}
+use Rattle.server.proofs.Kept.{next_good, lasts}
 use Rattle.server.proofs.Numbers.{numbered}
 use Rattle.server.proofs.Bounds.{accepted}
 use Rattle.server.proofs.state.Server.step.Goals as goal
+
+pub advance-r-requires : goal.advance-r-requires
+advance-r-requires c = lasts (accepted c.args.table.now (length c.args.image.now) c.args.self (sym c.in_default.ensures.number))
 
 pub canonical-state-requires : goal.canonical-state-requires
 canonical-state-requires c =

@@ -4,10 +4,10 @@ use native.Mathlib.Omega.{arith}
 use lib.ListN.{length}
 use Rattle.machine.proofs.Leaves.{absorbs_none, absorbs_idle}
 use Rattle.server.proofs.Bounds.{good_serving}
-use Rattle.server.proofs.step.absorb.Goals as goal
+use Rattle.server.proofs.step.ServerEnd.absorb.Goals as goal
 
 pub returns-then-input-eq0 : goal.returns-then-input-eq0
-returns-then-input-eq0 c = absorbs_none c.if-input-eq0.true
+returns-then-input-eq0 c = rw c.none.ensures (absorbs_none c.if-input-eq0.true)
 
 pub absorb-requires : goal.absorb-requires
 absorb-requires c =
@@ -28,4 +28,4 @@ pub returns-in-Serving : goal.returns-in-Serving
 returns-in-Serving c = rw c.in-Serving.is (c.absorb-in-Serving.ensures _)
 
 pub returns-in-Over : goal.returns-in-Over
-returns-in-Over c = rw c.takes_none.ensures (absorbs_idle (rw c.in-Over.is))
+returns-in-Over c = rw c.none-in-Over.ensures (absorbs_idle (rw c.in-Over.is))
