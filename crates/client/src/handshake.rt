@@ -339,8 +339,14 @@ pub fn absorb(head: [u8; 16], name: usize, p: Handshake, input: &[u8]) -> Took
         Handshake::Magic { have } => take_magic(head, name, have, input),
         Handshake::Style { have } => take_style(head, name, have, input),
         Handshake::Newstyle { left } => skip_flags(head, name, left, input.len()),
-        Handshake::Hello { .. } => Took::none(Client { phase: Phase::Shaking(name, p), head }),
-        Handshake::Naming { .. } => Took::none(Client { phase: Phase::Shaking(name, p), head }),
+        Handshake::Hello { .. } => Took::none(Client {
+            phase: Phase::Shaking(name, p),
+            head,
+        }),
+        Handshake::Naming { .. } => Took::none(Client {
+            phase: Phase::Shaking(name, p),
+            head,
+        }),
         Handshake::SizeAndFlags { old, have } => take_size_and_flags(head, name, old, have, input),
         Handshake::Filler(f) => take_filler(head, name, f, input),
     }
@@ -352,12 +358,27 @@ pub fn emit(head: [u8; 16], name: usize, p: Handshake, lent: &[u8], room: &mut [
     ensures { Emitted (Shaking name (handshake_of head p)) lent.now room.old result room.new }
 {
     match p {
-        Handshake::Magic { .. } => Gave::none(Client { phase: Phase::Shaking(name, p), head }),
-        Handshake::Style { .. } => Gave::none(Client { phase: Phase::Shaking(name, p), head }),
-        Handshake::Newstyle { .. } => Gave::none(Client { phase: Phase::Shaking(name, p), head }),
+        Handshake::Magic { .. } => Gave::none(Client {
+            phase: Phase::Shaking(name, p),
+            head,
+        }),
+        Handshake::Style { .. } => Gave::none(Client {
+            phase: Phase::Shaking(name, p),
+            head,
+        }),
+        Handshake::Newstyle { .. } => Gave::none(Client {
+            phase: Phase::Shaking(name, p),
+            head,
+        }),
         Handshake::Hello { left } => send_hello(head, name, left, room),
         Handshake::Naming { left } => send_name(head, name, left, lent, room),
-        Handshake::SizeAndFlags { .. } => Gave::none(Client { phase: Phase::Shaking(name, p), head }),
-        Handshake::Filler(_) => Gave::none(Client { phase: Phase::Shaking(name, p), head }),
+        Handshake::SizeAndFlags { .. } => Gave::none(Client {
+            phase: Phase::Shaking(name, p),
+            head,
+        }),
+        Handshake::Filler(_) => Gave::none(Client {
+            phase: Phase::Shaking(name, p),
+            head,
+        }),
     }
 }

@@ -18,8 +18,8 @@ ghost use Rattle.client.specs.View.{view_of, progress_of};
 ghost use Rattle.client.specs.Ranges.{lent_to};
 ghost use Rattle.client.specs.Inner.{Some, GoodCall, GoodProgress, Absorbed, Emitted};
 
-use crate::state::{Call, Client, Device, Gave, Outcome, Phase, Progress, Took};
 use crate::calls;
+use crate::state::{Call, Client, Device, Gave, Outcome, Phase, Progress, Took};
 use machine::{copy, parts};
 use wire::{consts, fields};
 
@@ -172,8 +172,14 @@ pub fn absorb(
     ensures { Absorbed (Calling d c (progress_of head p)) lent.old input.now result lent.new }
 {
     match p {
-        Progress::Asking { .. } => Took::none(Client { phase: Phase::Calling(d, c, p), head }),
-        Progress::Paying { .. } => Took::none(Client { phase: Phase::Calling(d, c, p), head }),
+        Progress::Asking { .. } => Took::none(Client {
+            phase: Phase::Calling(d, c, p),
+            head,
+        }),
+        Progress::Paying { .. } => Took::none(Client {
+            phase: Phase::Calling(d, c, p),
+            head,
+        }),
         Progress::Hearing { have } => hear(head, d, c, have, input),
         Progress::Filling { left } => fill(head, d, c, left, input, lent),
     }
@@ -187,7 +193,13 @@ pub fn emit(head: [u8; 16], d: Device, c: Call, p: Progress, lent: &[u8], room: 
     match p {
         Progress::Asking { left } => send_request(head, d, c, left, room),
         Progress::Paying { left } => pay(head, d, c, left, lent, room),
-        Progress::Hearing { .. } => Gave::none(Client { phase: Phase::Calling(d, c, p), head }),
-        Progress::Filling { .. } => Gave::none(Client { phase: Phase::Calling(d, c, p), head }),
+        Progress::Hearing { .. } => Gave::none(Client {
+            phase: Phase::Calling(d, c, p),
+            head,
+        }),
+        Progress::Filling { .. } => Gave::none(Client {
+            phase: Phase::Calling(d, c, p),
+            head,
+        }),
     }
 }
