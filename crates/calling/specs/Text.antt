@@ -4,9 +4,7 @@
 --   is_resize     whether a call is a resize
 --   resizing     whether the open call is a resize, whose line shows the client's size
 --   size_of       that size
---   FitsCall     what is asked of the client has its input and its room in the buffers
 use Rattle.std.specs.Prelude.{ℕ, Bool, true, false, Option, Some, None}
-use Rattle.lines.specs.Buffers.{Room}
 use Rattle.lines.specs.declared.answer.Answer.{Answer}
 use Rattle.lines.specs.declared.answer.Answer.TheVariants.{On, Done, Fail, End, No}
 use Rattle.client.specs.declared.state.Value.{Value}
@@ -18,8 +16,6 @@ use Rattle.client.specs.declared.state.Phase.{Phase}
 use Rattle.client.specs.declared.state.Phase.TheVariants.{Blank, Shaking, Ready, Calling, Closed, Over}
 use Rattle.client.specs.declared.state.Outcome.{Outcome}
 use Rattle.client.specs.declared.state.Outcome.TheVariants as outcome
-use Rattle.calling.specs.declared.asked.Call as asked
-use Rattle.calling.specs.declared.asked.Call.TheVariants as ask
 
 -- `none` stands where a call gives no value
 abbrev pub value_shown : ℕ → Value → ℕ
@@ -53,10 +49,3 @@ resizing (Over n) = false
 abbrev pub size_of : Option Device → ℕ
 size_of (Some d) = d.size
 size_of None = 0
-
-abbrev pub FitsCall : asked.Call → Type 0
-FitsCall ask.Nothing = Unit {0}
-FitsCall ask.Fresh = Unit {0}
-FitsCall (ask.Step k) = Room k
-FitsCall ask.Show = Unit {0}
-FitsCall (ask.Make k) = Unit {0}

@@ -2,10 +2,9 @@
 use client::state::SeekFrom;
 use lines::places::Step;
 
-// A call of the client's: none, a fresh client, a step, `q`, or one that moves no byte.
+// A call of the client's: a fresh client, a step, `q`, or one that moves no byte.
 #[derive(Clone, Copy)]
 pub enum Call {
-    Nothing,
     Fresh,
     Step(Step),
     Show,

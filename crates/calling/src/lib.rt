@@ -3,19 +3,18 @@
 
 pub mod asked;
 
-ghost use Rattle.std.specs.Prelude.{◌≡◌, ◌≤◌, length};
+ghost use Rattle.std.specs.Prelude.{◌≡◌};
 ghost use Rattle.machine.specs.Choice.{pick};
 ghost use Rattle.client.specs.Contract.{known};
-ghost use Rattle.lines.specs.Buffers.{Lent, Long, Room};
-ghost use Rattle.calling.specs.Text.{FitsCall, value_shown, called_of, is_resize, resizing, size_of};
+ghost use Rattle.calling.specs.Text.{value_shown, called_of, resizing, size_of};
 
 use asked::{Call, Made};
 use client::state::{Client, Device, Outcome, Phase, Value};
-use client::{Called, Stepped, state};
+use client::{Called, state};
 use lines::answer::Answer;
-use lines::places::{Sizes, Step};
-use lines::room::Moved;
-use lines::{answer, places, room};
+use lines::buffers::{Buffers, End, Moved};
+use lines::places::Lent;
+use lines::{answer, buffers};
 
 // ---- answers
 
@@ -43,41 +42,18 @@ fn outcome(o: Outcome, none: u64) -> Answer
     }
 }
 
-fn is_resize(c: state::Call) -> bool
-    ensures { result ≡ is_resize c }
-{
-    match c {
-        state::Call::Read { .. } => false,
-        state::Call::Write { .. } => false,
-        state::Call::Flush => false,
-        state::Call::Trim { .. } => false,
-        state::Call::Resize { .. } => true,
-    }
-}
-
 // Whether the open call is a resize.
 fn resizing(s: Client) -> bool
     ensures { result ≡ resizing s.phase }
 {
-    let p = s.phase;
-    match p {
-        Phase::Blank => false,
-        Phase::Shaking(_, _) => false,
-        Phase::Ready(_) => false,
-        Phase::Calling(_, c, _) => is_resize(c),
-        Phase::Closed(_, _) => false,
-        Phase::Over(_) => false,
-    }
+    matches!(s.phase, Phase::Calling(_, state::Call::Resize { .. }, _))
 }
 
 // The client's size, 0 where it has none.
 fn size(s: Client) -> u64
     ensures { result ≡ size_of (known s) }
 {
-    match s.info() {
-        Some(d) => d.size,
-        None => 0,
-    }
+    s.info().map_or(0, |d| d.size)
 }
 
 // What a step's line shows where the call gives no value: after a resize, the client's size.
@@ -111,35 +87,6 @@ fn show(s: Client) {
 
 // ---- calls
 
-// The library's step, with the payload's input and with this room.
-fn stepped(s: Client, k: Step, z: Sizes, still: &[u8], lent: &mut [u8], room: &mut [u8]) -> Stepped
-    requires { Room k × Lent z × Long still.now lent.old room.old }
-    ensures { result.given ≤ k.room }
-{
-    let slice = places::second();
-    let last = slice + z.slice;
-    let end = k.end;
-    let n = k.room;
-    s.step(&still[4..end], &mut room[0..n], &mut lent[slice..last])
-}
-
-// A step, and its line.
-fn step(s: Client, k: Step, z: Sizes, still: &mut [u8], lent: &mut [u8], room: &mut [u8]) -> Client
-    requires { Room k × Lent z × Long still.old lent.old room.old }
-{
-    let p = z.slice_part();
-    room::prepare(p, k.room, still, lent, room);
-    let r = stepped(s, k, z, still, lent, room);
-    let o = r.outcome;
-    let m = Moved {
-        answer: outcome(o, shown(s, r.state)),
-        taken: r.taken,
-        given: r.given,
-    };
-    room::show_step(m, p, k.room, still, lent, room);
-    r.state
-}
-
 fn make(c: Client, k: Made, slice: &[u8]) -> Called {
     match k {
         Made::Handshake => c.handshake(slice),
@@ -153,37 +100,51 @@ fn make(c: Client, k: Made, slice: &[u8]) -> Called {
     }
 }
 
-// A call with the client's slice, and its line.
-fn call(c: Client, k: Made, z: Sizes, lent: &[u8]) -> Client
-    requires { Lent z × (length lent.now ≡ 524288) }
-{
-    let slice = places::second();
-    let last = slice + z.slice;
-    let r = make(c, k, &lent[slice..last]);
-    let o = r.outcome;
-    answer::line(outcome(o, 0), 0, b"", false);
-    r.state
+// The client that a script drives.
+#[derive(Clone, Copy)]
+pub struct Calling {
+    client: Client,
 }
 
-// Does what a record says of the client.
-pub fn obey(
-    s: Client,
-    c: Call,
-    z: Sizes,
-    still: &mut [u8],
-    lent: &mut [u8],
-    room: &mut [u8],
-) -> Client
-    requires { FitsCall c × Lent z × Long still.old lent.old room.old }
-{
-    match c {
-        Call::Nothing => s,
-        Call::Fresh => Client::new(),
-        Call::Step(k) => step(s, k, z, still, lent, room),
-        Call::Show => {
-            show(s);
-            s
+impl End for Calling {
+    fn lent(&self) -> Lent {
+        Lent::Slice
+    }
+
+    fn step(&mut self, input: &[u8], room: &mut [u8], _table: &[u8], lent: &mut [u8]) -> Moved {
+        let before = self.client;
+        let r = before.step(input, room, lent);
+        self.client = r.state;
+        Moved {
+            answer: outcome(r.outcome, shown(before, r.state)),
+            taken: r.taken,
+            given: r.given,
         }
-        Call::Make(k) => call(s, k, z, lent),
+    }
+}
+
+impl Calling {
+    pub fn new() -> Calling {
+        Calling {
+            client: Client::new(),
+        }
+    }
+
+    // A call with the client's slice, and its line.
+    fn call(&mut self, k: Made, buffers: &Buffers) {
+        let slice = buffers.lent(buffers.sizes.part(Lent::Slice));
+        let r = make(self.client, k, slice);
+        self.client = r.state;
+        answer::line(outcome(r.outcome, 0), 0, b"", false);
+    }
+
+    // Does what a record says of the client.
+    pub fn obey(&mut self, c: Call, buffers: &mut Buffers) {
+        match c {
+            Call::Fresh => self.client = Client::new(),
+            Call::Step(k) => buffers::drive(self, k, buffers),
+            Call::Show => show(self.client),
+            Call::Make(k) => self.call(k, buffers),
+        }
     }
 }

@@ -1,2 +1,1 @@
 mod Spelled
-mod Marked

@@ -14,6 +14,12 @@ pub enum Answer {
     No(u8),
 }
 
+impl Answer {
+    pub fn is_refusal(self) -> bool {
+        matches!(self, Answer::No(_))
+    }
+}
+
 // What was moved, after a word that says how the call went.
 fn moved(taken: usize, given: &[u8]) {
     number(taken as u64);
@@ -34,26 +40,17 @@ pub fn close(changed: bool) {
     text(b"\n");
 }
 
-// The line of an answer with the bytes taken and given.
+// The line of an answer with the bytes taken and given, which a refusal has none of.
 pub fn line(a: Answer, taken: usize, given: &[u8], changed: bool) {
     match a {
-        Answer::On => {
-            text(b"on");
-            moved(taken, given);
-        }
-        Answer::Done(n) => {
-            with_number(b"ok", n);
-            moved(taken, given);
-        }
-        Answer::Fail(n) => {
-            with_number(b"fail", n as u64);
-            moved(taken, given);
-        }
-        Answer::End(n) => {
-            with_number(b"end", n as u64);
-            moved(taken, given);
-        }
-        Answer::No(n) => with_number(b"no", n as u64),
+        Answer::On => text(b"on"),
+        Answer::Done(n) => with_number(b"ok", n),
+        Answer::Fail(n) => with_number(b"fail", u64::from(n)),
+        Answer::End(n) => with_number(b"end", u64::from(n)),
+        Answer::No(n) => with_number(b"no", u64::from(n)),
+    }
+    if !a.is_refusal() {
+        moved(taken, given);
     }
     close(changed);
 }

@@ -1,17 +1,15 @@
 // What `trace` writes and lends: words, numbers and bytes on standard output (here), lines (`answer`), where things stand (`places`), and the
-// buffers around a step (`room`).
+// buffers around a step, and the step itself (`buffers`).
 #![tactic(auto)]
 
 pub mod answer;
+pub mod buffers;
 pub mod places;
-pub mod room;
 
 ghost use Rattle.std.specs.Prelude.{◌≡◌, ◌*◌, ◌<◌, ◌≤◌, length};
 ghost use Rattle.std.proofs.Math.Seq.{paste};
 ghost use Rattle.io.specs.Digits.{hex_digit_ascii};
 ghost use Rattle.lines.specs.Hex.{hex_of};
-
-use machine::copy;
 
 // Standard output.
 const STDOUT: i32 = 1;
@@ -28,11 +26,7 @@ pub fn number(n: u64) {
 
 // A space, and 1 or 0.
 pub fn bit(b: bool) {
-    if b {
-        text(b" 1");
-    } else {
-        text(b" 0");
-    }
+    number(u64::from(b));
 }
 
 fn digit(d: u8) -> u8
@@ -47,12 +41,9 @@ fn spell(bytes: &[u8], out: &mut [u8])
     requires { 2 * length bytes.now ≤ length out.old }
     ensures { out.new ≡ paste out.old 0 (hex_of bytes.now) (2 * length bytes.now) }
 {
-    let mut i = 0;
-    while i < bytes.len() {
-        let b = bytes[i];
+    for (i, &b) in bytes.iter().enumerate() {
         out[2 * i] = digit(b / 16);
         out[2 * i + 1] = digit(b % 16);
-        i += 1;
     }
 }
 
@@ -68,15 +59,12 @@ fn hex_part(bytes: &[u8])
 
 // A space, and the bytes in hex: `-` for none.
 pub fn hex(bytes: &[u8]) {
-    if bytes.len() == 0 {
+    if bytes.is_empty() {
         text(b" -");
         return;
     }
     text(b" ");
-    let mut i = 0;
-    while i < bytes.len() {
-        let e = i + copy::least(bytes.len() - i, 2048);
-        hex_part(&bytes[i..e]);
-        i = e;
+    for part in bytes.chunks(2048) {
+        hex_part(part);
     }
 }

@@ -1,6 +1,8 @@
 // Where things stand in the buffers: in `still` the payload, the table and a copy of what was lent; in `lent` the image and the client's slice.
-ghost use Rattle.std.specs.Prelude.{◌≡◌};
-ghost use Rattle.lines.specs.Buffers.{Lent, LiesIn};
+ghost use Rattle.std.specs.Prelude.{◌≡◌, ◌+◌, ◌<◌, ◌≤◌, MatchOption};
+
+// The longest payload, and so the longest table, image, slice and room.
+pub const LONGEST: usize = 262144;
 
 // A slice that starts at a great literal is dear to check, at such an answer it is not.
 
@@ -18,46 +20,79 @@ pub fn third() -> usize
     524288
 }
 
+// A number of bytes, at most LONGEST.
+#[derive(Clone, Copy)]
+pub struct Size {
+    pub bytes: usize,
+    pub ghost fits: { bytes ≤ 262144 },
+}
+
 // How many bytes the table, the image and the client's slice have.
 #[derive(Clone, Copy)]
 pub struct Sizes {
-    pub table: usize,
-    pub image: usize,
-    pub slice: usize,
+    pub table: Size,
+    pub image: Size,
+    pub slice: Size,
+}
+
+// What a step may change: the image, which a server is lent, or the client's slice.
+#[derive(Clone, Copy)]
+pub enum Lent {
+    Image,
+    Slice,
 }
 
 // So many bytes from a place of `lent` on.
 #[derive(Clone, Copy)]
 pub struct Part {
     pub at: usize,
-    pub size: usize,
+    pub size: Size,
+    pub ghost inside: { at + size.bytes ≤ 524288 },
 }
 
-// A step, with a room of so many bytes. The input ends so far behind the payload's start.
+// A step, with a room of so many bytes. The input ends so far behind the payload's start, and begins 4 bytes behind it.
 #[derive(Clone, Copy)]
 pub struct Step {
-    pub room: usize,
-    pub end: usize,
+    pub room: Size,
+    pub end: Size,
+    pub ghost begins: { 4 ≤ end.bytes },
+}
+
+impl Size {
+    // None where it is too many.
+    pub fn new(bytes: usize) -> Option<Size>
+        ensures { MatchOption result (262144 < bytes) (λ n. n.bytes ≡ bytes) }
+    {
+        if bytes <= LONGEST {
+            Some(Size { bytes })
+        } else {
+            None
+        }
+    }
 }
 
 impl Sizes {
-    pub fn image_part(self) -> Part
-        requires { Lent self }
-        ensures { LiesIn result }
-    {
-        Part {
-            at: 0,
-            size: self.image,
+    // Of nothing.
+    pub fn new() -> Sizes {
+        let none = Size { bytes: 0 };
+        Sizes {
+            table: none,
+            image: none,
+            slice: none,
         }
     }
 
-    pub fn slice_part(self) -> Part
-        requires { Lent self }
-        ensures { LiesIn result }
-    {
-        Part {
-            at: second(),
-            size: self.slice,
+    // Where what is lent stands.
+    pub fn part(self, lent: Lent) -> Part {
+        match lent {
+            Lent::Image => Part {
+                at: 0,
+                size: self.image,
+            },
+            Lent::Slice => Part {
+                at: second(),
+                size: self.slice,
+            },
         }
     }
 }

@@ -1,10 +1,9 @@
 // What is asked of the server.
-use lines::places::Step;
+use lines::places::{Size, Step};
 
-// A call of the server's: none, a fresh server, a step, the end of input.
+// A call of the server's: a fresh server, a step, the end of input.
 #[derive(Clone, Copy)]
 pub enum Serve {
-    Nothing,
     Fresh,
     Step(Step),
     End,
@@ -13,7 +12,7 @@ pub enum Serve {
 // `oldstyle_header`
 #[derive(Clone, Copy)]
 pub struct Head {
-    pub room: usize,
+    pub room: Size,
     pub size: u64,
     pub flags: u32,
 }

@@ -4,17 +4,22 @@
 pub mod asked;
 
 ghost use Rattle.std.specs.Prelude.{◌≡◌, ◌≤◌, length};
-ghost use Rattle.lines.specs.Buffers.{Lent, Long, Room};
-ghost use Rattle.serving.specs.Text.{FitsServe, line_of};
+ghost use Rattle.serving.specs.Text.{line_of};
 
 use asked::{Head, Serve};
 use lines::answer::Answer;
-use lines::places::{Sizes, Step};
-use lines::room::Moved;
-use lines::{answer, places, room};
+use lines::buffers::{Buffers, End, Moved};
+use lines::places::Lent;
+use lines::{answer, buffers};
+use server::oldstyle;
 use server::oldstyle::HeaderAnswer;
 use server::state::{Outcome, Server};
-use server::{Stepped, oldstyle};
+
+// The server that a script drives.
+#[derive(Clone, Copy)]
+pub struct Served {
+    server: Server,
+}
 
 fn shown(o: Outcome) -> Answer
     ensures { result ≡ line_of o }
@@ -26,65 +31,43 @@ fn shown(o: Outcome) -> Answer
     }
 }
 
-// The library's step, with the payload's input and with this room.
-fn made(s: Server, k: Step, z: Sizes, still: &[u8], lent: &mut [u8], room: &mut [u8]) -> Stepped
-    requires { Room k × Lent z × Long still.now lent.old room.old }
-    ensures { result.given ≤ k.room }
-{
-    let table = places::second();
-    let last = table + z.table;
-    let m = z.image;
-    let end = k.end;
-    let n = k.room;
-    s.step(
-        &still[4..end],
-        &mut room[0..n],
-        &still[table..last],
-        &mut lent[0..m],
-    )
+impl End for Served {
+    fn lent(&self) -> Lent {
+        Lent::Image
+    }
+
+    fn step(&mut self, input: &[u8], room: &mut [u8], table: &[u8], lent: &mut [u8]) -> Moved {
+        let r = self.server.step(input, room, table, lent);
+        self.server = r.state;
+        Moved {
+            answer: shown(r.outcome),
+            taken: r.taken,
+            given: r.given,
+        }
+    }
 }
 
-// A step, and its line.
-fn step(s: Server, k: Step, z: Sizes, still: &mut [u8], lent: &mut [u8], room: &mut [u8]) -> Server
-    requires { Room k × Lent z × Long still.old lent.old room.old }
-{
-    let p = z.image_part();
-    room::prepare(p, k.room, still, lent, room);
-    let r = made(s, k, z, still, lent, room);
-    let o = r.outcome;
-    let m = Moved {
-        answer: shown(o),
-        taken: r.taken,
-        given: r.given,
-    };
-    room::show_step(m, p, k.room, still, lent, room);
-    r.state
-}
+impl Served {
+    pub fn new() -> Served {
+        Served {
+            server: Server::new(),
+        }
+    }
 
-// The end of input, and its line.
-fn end(s: Server) -> Server {
-    let r = s.end_of_input();
-    let o = r.outcome;
-    answer::line(shown(o), 0, b"", false);
-    r.state
-}
+    // The end of input, and its line.
+    fn end(&mut self) {
+        let r = self.server.end_of_input();
+        answer::line(shown(r.outcome), 0, b"", false);
+        self.server = r.state;
+    }
 
-// Does what a record says of the server.
-pub fn obey(
-    s: Server,
-    c: Serve,
-    z: Sizes,
-    still: &mut [u8],
-    lent: &mut [u8],
-    room: &mut [u8],
-) -> Server
-    requires { FitsServe c × Lent z × Long still.old lent.old room.old }
-{
-    match c {
-        Serve::Nothing => s,
-        Serve::Fresh => Server::new(),
-        Serve::Step(k) => step(s, k, z, still, lent, room),
-        Serve::End => end(s),
+    // Does what a record says of the server.
+    pub fn obey(&mut self, c: Serve, buffers: &mut Buffers) {
+        match c {
+            Serve::Fresh => self.server = Server::new(),
+            Serve::Step(k) => buffers::drive(self, k, buffers),
+            Serve::End => self.end(),
+        }
     }
 }
 
@@ -106,11 +89,8 @@ fn header(size: u64, flags: u32, room: &mut [u8]) -> Moved
 }
 
 // The old-style header, and its line.
-pub fn head(k: Head, room: &mut [u8])
-    requires { (k.room ≤ 262144) × (length room.old ≡ 262144) }
-{
-    let n = k.room;
-    room::clean(n, room);
-    let m = header(k.size, k.flags, &mut room[0..n]);
-    room::show(m, true, n, room);
+pub fn head(k: Head, buffers: &mut Buffers) {
+    buffers.clean(k.room);
+    let m = header(k.size, k.flags, &mut buffers.room[..k.room.bytes]);
+    buffers.show(m, true, k.room);
 }

@@ -1,85 +1,85 @@
-// What is kept from record to record, beside the two ends. The bytes stand in three arrays: in `still` what no step changes, which is the payload,
-// the table and a copy of what was lent; in `lent` what a step may change, the image and the client's slice; and the room.
-ghost use Rattle.std.specs.Prelude.{◌≡◌, length};
-ghost use Rattle.lines.specs.Buffers.{Lent, LiesIn};
-ghost use Rattle.trace.specs.Buffers.{Sized, Fits};
+// The two ends that a script drives, and what is kept beside them from record to record.
+use crate::command::{Command, Kept};
+use crate::record::{BadScript, Record};
+use crate::{command, record};
+use calling::Calling;
+use lines::buffers::Buffers;
+use lines::places::{Lent, Size};
+use lines::{answer, places};
+use serving::Served;
 
-use crate::command::{Change, Command, Shown};
-use lines::answer;
-use lines::places::{Part, Sizes};
+#[derive(Drop)]
+pub struct Host {
+    server: Served,
+    client: Calling,
+    buffers: Buffers,
+}
 
-pub const STILL: usize = 786432;
-
-pub const LENT: usize = 524288;
-
-pub const ROOM: usize = 262144;
-
-fn changed(z: Sizes, k: Change) -> Sizes
-    requires { Lent z × Sized k }
-    ensures { Lent result }
-{
-    let mut new = z;
-    match k {
-        Change::Table(n) => {
-            new.table = n;
-        }
-        Change::Image(n) => {
-            new.image = n;
-        }
-        Change::Slice(n) => {
-            new.slice = n;
+impl Host {
+    pub fn new() -> Host {
+        Host {
+            server: Served::new(),
+            client: Calling::new(),
+            buffers: Buffers::new(),
         }
     }
-    new
-}
 
-// A part of what is lent, and its line.
-fn show_part(word: &[u8], p: Part, lent: &[u8])
-    requires { LiesIn p × (length lent.now ≡ 524288) }
-{
-    let at = p.at;
-    let end = at + p.size;
-    lines::text(word);
-    lines::hex(&lent[at..end]);
-    answer::close(false);
-}
-
-// `i` and `b`
-fn show(z: Sizes, k: Shown, lent: &[u8])
-    requires { Lent z × (length lent.now ≡ 524288) }
-{
-    match k {
-        Shown::Image => show_part(b"image", z.image_part(), lent),
-        Shown::Slice => show_part(b"slice", z.slice_part(), lent),
+    // Reads a payload to its place: the table, the image and the slice each have their own.
+    fn store(&mut self, r: Record) -> Result<(), BadScript> {
+        match r.letter {
+            b'T' => record::payload(&mut self.buffers.still, places::second(), r.size),
+            b'I' => record::payload(&mut self.buffers.lent, 0, r.size),
+            b'B' => record::payload(&mut self.buffers.lent, places::second(), r.size),
+            _ => record::payload(&mut self.buffers.still, 0, r.size),
+        }
     }
-}
 
-// Does what a record says that is about neither end.
-pub fn obey(z: Sizes, c: Command, lent: &[u8], room: &mut [u8]) -> Sizes
-    requires { Lent z × Fits c × (length lent.now ≡ 524288) × (length room.old ≡ 262144) }
-    ensures { Lent result }
-{
-    match c {
-        Command::Change(k) => return changed(z, k),
-        Command::Serve(_) => {}
-        Command::Call(_) => {}
-        Command::Head(k) => serving::head(k, room),
-        Command::Show(k) => show(z, k, lent),
-        Command::Bad => lines::text(b"bad script\n"),
-        Command::Over => {}
+    // Reads a record, and says what it asks for. None where the script has ended.
+    fn next(&mut self) -> Result<Option<Command>, BadScript> {
+        let Some(r) = record::next()? else {
+            return Ok(None);
+        };
+        self.store(r)?;
+        Ok(Some(command::read(r, &self.buffers.still)?))
     }
-    z
-}
 
-// Whether the script goes on behind a record.
-pub fn goes_on(c: Command) -> bool {
-    match c {
-        Command::Change(_) => true,
-        Command::Serve(_) => true,
-        Command::Call(_) => true,
-        Command::Head(_) => true,
-        Command::Show(_) => true,
-        Command::Bad => false,
-        Command::Over => false,
+    fn change(&mut self, k: Kept, n: Size) {
+        match k {
+            Kept::Table => self.buffers.sizes.table = n,
+            Kept::Image => self.buffers.sizes.image = n,
+            Kept::Slice => self.buffers.sizes.slice = n,
+        }
+    }
+
+    // `i` and `b`: a part of what is lent, and its line.
+    fn show(&self, lent: Lent) {
+        match lent {
+            Lent::Image => lines::text(b"image"),
+            Lent::Slice => lines::text(b"slice"),
+        }
+        lines::hex(self.buffers.lent(self.buffers.sizes.part(lent)));
+        answer::close(false);
+    }
+
+    // Does what a record says.
+    fn obey(&mut self, c: Command) {
+        match c {
+            Command::Change(k, n) => self.change(k, n),
+            Command::Serve(k) => self.server.obey(k, &mut self.buffers),
+            Command::Call(k) => self.client.obey(k, &mut self.buffers),
+            Command::Head(k) => serving::head(k, &mut self.buffers),
+            Command::Show(lent) => self.show(lent),
+        }
+    }
+
+    // Plays a script to its end. A proved loop has to end, and nothing says that a script does: it has more turns than a run uses up.
+    pub fn play(&mut self) -> Result<(), BadScript> {
+        for _ in 0..u64::MAX {
+            let Some(c) = self.next()? else {
+                return Ok(());
+            };
+            self.obey(c);
+        }
+        Ok(())
     }
 }

@@ -1,49 +1,48 @@
 // A script is a run of records: a command (1 byte), a length (4) and a payload of so many bytes.
 ghost use Rattle.std.specs.Prelude.{◌+◌, ◌≤◌, length};
-ghost use Rattle.trace.specs.Buffers.{Within};
 
+use lines::places::Size;
 use wire::fields;
 
 // Standard input.
 const STDIN: i32 = 0;
 
-// The longest payload.
-const LONGEST: usize = 262144;
+// A record is cut, too long, or not one that this program knows.
+#[derive(Clone, Copy, Debug, PartialEq, Eq)]
+pub struct BadScript;
 
+// A record's head. The payload comes next.
 #[derive(Clone, Copy)]
-pub enum Record {
-    // the payload comes next
-    Of { letter: u8, size: usize },
-    // cut, or too long
-    Bad,
-    // the script has ended
-    Over,
+pub struct Record {
+    pub letter: u8,
+    pub size: Size,
 }
 
-// Reads a record's command and length from standard input.
-pub fn next() -> Record
-    ensures { Within result }
-{
+// Reads a record's command and length from standard input. None where the script has ended.
+pub fn next() -> Result<Option<Record>, BadScript> {
     let mut head = [0u8; 5];
     let got = io::read_full(STDIN, &mut head);
     if got == 0 {
-        return Record::Over;
+        return Ok(None);
     }
     if got < 5 {
-        return Record::Bad;
+        return Err(BadScript);
     }
-    let letter = head[0];
-    let size = fields::read_u32(&head, 1) as usize;
-    if LONGEST < size {
-        return Record::Bad;
-    }
-    Record::Of { letter, size }
+    let size = Size::new(fields::read_u32(&head, 1) as usize).ok_or(BadScript)?;
+    Ok(Some(Record {
+        letter: head[0],
+        size,
+    }))
 }
 
-// Reads a payload of so many bytes to this place. Whether it is whole.
-pub fn payload(buffer: &mut [u8], at: usize, size: usize) -> bool
-    requires { at + size ≤ length buffer.old }
+// Reads a payload of so many bytes to this place.
+pub fn payload(buffer: &mut [u8], at: usize, size: Size) -> Result<(), BadScript>
+    requires { at + size.bytes ≤ length buffer.old }
 {
-    let end = at + size;
-    io::read_full(STDIN, &mut buffer[at..end]) == size
+    let end = at + size.bytes;
+    if io::read_full(STDIN, &mut buffer[at..end]) == size.bytes {
+        Ok(())
+    } else {
+        Err(BadScript)
+    }
 }

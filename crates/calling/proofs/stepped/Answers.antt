@@ -1,7 +1,0 @@
--- What is given lies in the room.
-use Rattle.client.proofs.Result.{within}
-use native.Mathlib.Omega.{arith}
-use Rattle.calling.proofs.stepped.Goals as goal
-
-pub returns : goal.returns
-returns c = omega (arith, (within c.step.ensures).1, c.step)
