@@ -12,7 +12,7 @@ use asked::{Call, Made};
 use client::state::{Client, Device, Outcome, Phase, Value};
 use client::{Called, state};
 use lines::answer::Answer;
-use lines::buffers::{Buffers, End, Moved};
+use lines::buffers::{Buffers, Driven, Moved};
 use lines::places::Lent;
 use lines::{answer, buffers};
 
@@ -106,7 +106,7 @@ pub struct Calling {
     client: Client,
 }
 
-impl End for Calling {
+impl Driven for Calling {
     fn lent(&self) -> Lent {
         Lent::Slice
     }

@@ -91,7 +91,7 @@ impl Buffers {
 }
 
 // An end that a script drives: a server or a client.
-pub trait End {
+pub trait Driven {
     // What its step may change.
     fn lent(&self) -> Lent;
 
@@ -101,7 +101,7 @@ pub trait End {
 }
 
 // The step, with each slice that it is lent.
-fn stepped<E: End>(
+fn stepped<E: Driven>(
     end: &mut E,
     k: Step,
     sizes: Sizes,
@@ -122,7 +122,7 @@ fn stepped<E: End>(
 }
 
 // A step, with the payload's input and the front of the room, and its line.
-pub fn drive<E: End>(end: &mut E, k: Step, buffers: &mut Buffers) {
+pub fn drive<E: Driven>(end: &mut E, k: Step, buffers: &mut Buffers) {
     let p = buffers.sizes.part(end.lent());
     buffers.prepare(p, k.room);
     let Buffers {

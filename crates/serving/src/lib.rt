@@ -8,7 +8,7 @@ ghost use Rattle.serving.specs.Text.{line_of};
 
 use asked::{Head, Serve};
 use lines::answer::Answer;
-use lines::buffers::{Buffers, End, Moved};
+use lines::buffers::{Buffers, Driven, Moved};
 use lines::places::Lent;
 use lines::{answer, buffers};
 use server::oldstyle;
@@ -31,7 +31,7 @@ fn shown(o: Outcome) -> Answer
     }
 }
 
-impl End for Served {
+impl Driven for Served {
     fn lent(&self) -> Lent {
         Lent::Image
     }

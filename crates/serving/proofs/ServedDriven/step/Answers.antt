@@ -1,6 +1,6 @@
 -- What is given lies in the room.
-use Rattle.client.proofs.Result.{within}
-use Rattle.calling.proofs.CallingEnd.step.Goals as goal
+use Rattle.server.proofs.Result.{within}
+use Rattle.serving.proofs.ServedDriven.step.Goals as goal
 
 pub returns : goal.returns
 returns c = (within c.step-r.ensures).1
