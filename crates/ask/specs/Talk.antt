@@ -1,15 +1,9 @@
--- The input buffer and the steps.
---   Pending n   the bytes that are not taken lie in a buffer of n bytes
---   Steps       a step is the library's, and its counts lie in the input and the room
+-- The client's steps.
+--   Steps   a step is the library's, and its counts lie in the input and the room
 use Rattle.std.specs.Prelude.{ℕ, ◌≤◌, List, length}
 use Rattle.client.specs.Contract.{Drives}
 use Rattle.client.specs.declared.state.Client.{Client}
 use Rattle.client.specs.declared.Stepped.{Stepped}
-use Rattle.ask.specs.declared.talk.Talk.{Talk}
-
-pub record Pending (n : ℕ) (t : Talk) : Type 0 where
-  pub order : t.at ≤ t.have
-  pub fits : t.have ≤ n
 
 pub record Steps (c : Client) (m input room : List ℕ) (r : Stepped) (m' room' : List ℕ) : Type 0 where
   pub driven : Drives c m input room r m' room'

@@ -7,161 +7,79 @@ mod orders;
 mod talk;
 mod words;
 
-ghost use Rattle.std.specs.Prelude.{◌≤◌, length};
-ghost use Rattle.host.specs.Files.{GotIn};
-ghost use Rattle.ask.specs.Talk.{Pending};
+ghost use Rattle.std.specs.Io.{ReadsAtMost};
 
 use client::state::Outcome;
-use host::files::Got;
-use host::words::{say, say_number};
+use host::words::{fail, say, tell};
 use host::{args, files, text};
-use orders::Order;
+use std::io::Result;
 use talk::Talk;
 
 // What one call moves at most, and a byte more.
 const BUFFER: usize = 4194305;
 
-const PIECE: usize = 262144;
-
 // The longest script, and a byte more.
 const SCRIPT: usize = 65537;
 
-fn is_over(o: Outcome) -> bool {
-    match o {
-        Outcome::Open => true,
-        Outcome::Succeeded(_) => false,
-        Outcome::Failed(_) => false,
-        Outcome::Ended(_) => true,
-        Outcome::Refused(_) => false,
-    }
-}
-
-fn is_nothing(o: Order) -> bool {
-    match o {
-        Order::Nothing => true,
-        Order::Read { .. } => false,
-        Order::Write { .. } => false,
-        Order::SeekStart(_) => false,
-        Order::SeekPosition(_) => false,
-        Order::SeekEnd(_) => false,
-        Order::Flush => false,
-        Order::Trim(_) => false,
-        Order::Resize(_) => false,
-        Order::Bad => false,
-    }
-}
-
 // Does what a line says, and tells how it went.
-fn obey_line(
-    rt: &HostRuntime,
-    t: Talk,
-    k: u64,
-    line: &[u8],
-    buffer: &mut [u8],
-    input: &mut [u8],
-    room: &mut [u8],
-) -> Talk
-    requires { Pending (length input.old) t × (length input.old ≤ 262144) }
-    ensures { Pending (length input.old) result }
-{
-    let mut name = io::buffer();
-    let o = orders::parse(line, &mut name);
-    if is_nothing(o) {
-        return t;
+fn obey_line(rt: &HostRuntime, talk: &mut Talk, k: u64, line: &[u8], buffer: &mut [u8]) {
+    let at = text::skip(line, 0);
+    if text::is_end(line, at) {
+        return;
     }
-    say(b"ask: line ");
-    say_number(k);
-    say(b": ");
-    obeying::obey(rt, t, o, &name, buffer, input, room)
+    tell(format_args!("ask: line {k}: "));
+    let mut name = io::buffer();
+    match orders::parse(line, at, &mut name) {
+        Some(order) => obeying::obey(rt, talk, order, buffer),
+        None => say(
+            b"read N FILE, write FILE, seek start|position|end N, flush, trim N or resize N is meant\n",
+        ),
+    }
 }
 
 // The lines, until the session is over.
-fn obey_all(
-    rt: &HostRuntime,
-    t: Talk,
-    script: &[u8],
-    buffer: &mut [u8],
-    input: &mut [u8],
-    room: &mut [u8],
-)
-    requires { Pending (length input.old) t × (length input.old ≤ 262144) }
-{
-    let mut r = t;
-    let mut at = 0;
-    let mut k = 0;
-    while at < script.len() {
-        let o = r.outcome;
-        if is_over(o) {
+fn obey_all(rt: &HostRuntime, talk: &mut Talk, script: &[u8], buffer: &mut [u8]) {
+    for (k, line) in (1u64..).zip(script.split(|b| *b == b'\n')) {
+        if matches!(talk.outcome, Outcome::Open | Outcome::Ended(_)) {
             return;
         }
-        let end = text::line_end(script, at);
-        k = std::num::wrapping_add_u64(k, 1);
-        r = obey_line(rt, r, k, &script[at..end], buffer, input, room);
-        at = text::behind(end, script.len());
+        obey_line(rt, talk, k, line, buffer);
     }
 }
 
-// The handshake.
-fn shake(rt: &HostRuntime, name: &mut [u8], input: &mut [u8], room: &mut [u8]) -> Talk
-    requires { length input.old ≤ 262144 }
-    ensures { Pending (length input.old) result }
-{
-    let t = Talk::new();
-    let c = t.client;
-    talk::drive(rt.stdin(), t.called(c.handshake(name)), name, input, room)
-}
-
-fn connect(
-    rt: &HostRuntime,
-    name: &mut [u8],
-    script: &[u8],
-    buffer: &mut [u8],
-    input: &mut [u8],
-    room: &mut [u8],
-)
-    requires { length input.old ≤ 262144 }
-{
-    let r = shake(rt, name, input, room);
+// The handshake, and the calls.
+fn connect(rt: &HostRuntime, name: &mut [u8], script: &[u8], buffer: &mut [u8]) {
+    let mut talk = Talk::new(rt.stdin());
+    let c = talk.client.handshake(name);
+    talk.drive(c, name);
     say(b"ask: ");
-    let outcome = r.outcome;
-    words::say_outcome(outcome);
-    obey_all(rt, r, script, buffer, input, room);
+    words::say_outcome(talk.outcome);
+    obey_all(rt, &mut talk, script, buffer);
 }
 
-fn start(rt: &HostRuntime, script: &[u8], buffer: &mut [u8], input: &mut [u8], room: &mut [u8])
-    requires { length input.old ≤ 262144 }
-{
+fn start(rt: &HostRuntime, script: &[u8], buffer: &mut [u8]) {
     if script.len() == SCRIPT {
         say(b"ask: the script is longer than 65536 bytes\n");
         return;
     }
     let mut name = io::buffer();
     match args::get(rt, 1, &mut name) {
-        Ok(n) => connect(rt, &mut name[..n], script, buffer, input, room),
-        Err(e) => host::words::fail(b"ask: the export's name", e),
+        Ok(n) => connect(rt, &mut name[..n], script, buffer),
+        Err(e) => fail(b"ask: the export's name", e),
     }
 }
 
-// A name that is too long is none, and no file has it.
-fn script_name(rt: &HostRuntime, word: &mut [u8]) -> usize
-    ensures { result ≤ length word.new }
-{
-    match args::get(rt, 2, word) {
-        Ok(n) => n,
-        Err(_) => 0,
-    }
-}
-
-fn read_script(rt: &HostRuntime, script: &mut [u8]) -> Got
-    ensures { GotIn (length script.old) result }
+// A name that is too long is none, and no file has it. A script that opens and cannot be read is passed over without a word.
+fn read_script(rt: &HostRuntime, script: &mut [u8]) -> Result<usize>
+    ensures { ReadsAtMost result script.new }
 {
     let mut word = io::buffer();
-    let n = script_name(rt, &mut word);
+    let n = args::get(rt, 2, &mut word).unwrap_or(0);
     match files::open_read(rt, &word[..n]) {
-        Ok(mut file) => files::read_file(&mut file, script),
+        Ok(mut file) => files::fill(&mut file, script),
         Err(e) => {
-            host::words::fail(b"ask: the script", e);
-            Got::Unreadable(e)
+            fail(b"ask: the script", e);
+            Err(e)
         }
     }
 }
@@ -176,12 +94,8 @@ fn run(rt: &HostRuntime, buffer: &mut [u8; BUFFER]) {
         return;
     }
     let mut script = [0u8; SCRIPT];
-    let mut input = [0u8; PIECE];
-    let mut room = [0u8; PIECE];
-    let got = read_script(rt, &mut script);
-    match got {
-        Got::Bytes(n) => start(rt, &script[..n], buffer, &mut input, &mut room),
-        Got::Unreadable(_) => {}
+    if let Ok(n) = read_script(rt, &mut script) {
+        start(rt, &script[..n], buffer);
     }
 }
 

@@ -1,6 +1,6 @@
 // A client on standard input and output: a call is driven until it is closed.
-ghost use Rattle.std.specs.Prelude.{◌≡◌, ◌+◌, ◌≤◌, length};
-ghost use Rattle.ask.specs.Talk.{Pending, Steps};
+ghost use Rattle.std.specs.Prelude.{◌≤◌};
+ghost use Rattle.ask.specs.Talk.{Steps};
 
 use client::state::{Client, Outcome};
 use client::{Called, Stepped};
@@ -8,72 +8,20 @@ use std::io::{Read, Stdin};
 
 const STDOUT: i32 = 1;
 
-// The client, the bytes of the input buffer that it has not taken, and how the last call stands.
-#[derive(Clone, Copy)]
+const PIECE: usize = 262144;
+
+// The client, how its last call stands, room for what it gives, and an input buffer. The bytes from `at` to `have` are not taken yet.
+#[derive(Drop)]
 pub struct Talk {
     pub client: Client,
-    pub at: usize,
-    pub have: usize,
     pub outcome: Outcome,
-}
-
-impl Talk {
-    pub fn new() -> Talk
-        ensures { Pending 0 result }
-    {
-        let client = Client::new();
-        Talk {
-            client,
-            at: 0,
-            have: 0,
-            outcome: Outcome::Open,
-        }
-    }
-
-    // After a call.
-    pub fn called(self, c: Called) -> Talk
-        ensures { (result.at ≡ self.at) × (result.have ≡ self.have) }
-    {
-        let client = c.state;
-        let outcome = c.outcome;
-        Talk {
-            client,
-            at: self.at,
-            have: self.have,
-            outcome,
-        }
-    }
-}
-
-// Reads what is there; at its end, the client is told so.
-fn read(mut stdin: Stdin, t: Talk, input: &mut [u8]) -> Talk
-    requires { Pending (length input.old) t }
-    ensures { Pending (length input.old) result }
-{
-    let client = t.client;
-    let n = match stdin.read(input) {
-        Ok(n) => n,
-        Err(_) => 0,
-    };
-    if n == 0 {
-        return t.called(client.end_of_input());
-    }
-    Talk {
-        client,
-        at: 0,
-        have: n,
-        outcome: Outcome::Open,
-    }
-}
-
-pub fn is_open(o: Outcome) -> bool {
-    match o {
-        Outcome::Open => true,
-        Outcome::Succeeded(_) => false,
-        Outcome::Failed(_) => false,
-        Outcome::Ended(_) => false,
-        Outcome::Refused(_) => false,
-    }
+    stdin: Stdin,
+    room: [u8; PIECE],
+    input: [u8; PIECE],
+    at: usize,
+    have: usize,
+    ghost order: { at ≤ have },
+    ghost fits: { have ≤ 262144 },
 }
 
 // The client's step.
@@ -83,60 +31,68 @@ fn step(c: Client, input: &[u8], room: &mut [u8], lent: &mut [u8]) -> Stepped
     c.step(input, room, lent)
 }
 
-// After a step.
-fn advanced(t: Talk, s: Stepped) -> Talk
-    requires { (t.at + s.taken ≤ t.have) × (t.have ≤ 262144) }
-    ensures { Pending t.have result }
-{
-    let client = s.state;
-    let outcome = s.outcome;
-    Talk {
-        client,
-        at: t.at + s.taken,
-        have: t.have,
-        outcome,
-    }
-}
-
-// Whether nothing can go on without more input.
-fn waits(t: Talk, given: usize) -> bool {
-    let o = t.outcome;
-    is_open(o) && t.at == t.have && given == 0
-}
-
-// Takes and gives as far as both go, and sends what was given. Where nothing moves, input is awaited.
-fn turn(stdin: Stdin, t: Talk, lent: &mut [u8], input: &mut [u8], room: &mut [u8]) -> Talk
-    requires { Pending (length input.old) t × (length input.old ≤ 262144) }
-    ensures { Pending (length input.old) result }
-{
-    let a = t.at;
-    let b = t.have;
-    let c = t.client;
-    let s = step(c, &input[a..b], room, lent);
-    let n = s.given;
-    io::write_all(STDOUT, &room[..n]);
-    let next = advanced(t, s);
-    if waits(next, n) {
-        return read(stdin, next, input);
-    }
-    next
-}
-
-// A proved loop has to end, and nothing says that a server answers: its turns count down from a number that no run uses up.
-pub fn drive(stdin: Stdin, t: Talk, lent: &mut [u8], input: &mut [u8], room: &mut [u8]) -> Talk
-    requires { Pending (length input.old) t × (length input.old ≤ 262144) }
-    ensures { Pending (length input.old) result }
-{
-    let mut r = t;
-    let mut turns = u64::MAX;
-    while turns > 0 {
-        let o = r.outcome;
-        if is_open(o) {
-            r = turn(stdin, r, lent, input, room);
-            turns -= 1;
-        } else {
-            turns = 0;
+impl Talk {
+    pub fn new(stdin: Stdin) -> Talk {
+        Talk {
+            client: Client::new(),
+            outcome: Outcome::Open,
+            stdin,
+            room: [0u8; PIECE],
+            input: [0u8; PIECE],
+            at: 0,
+            have: 0,
         }
     }
-    r
+
+    fn called(&mut self, c: Called) {
+        self.client = c.state;
+        self.outcome = c.outcome;
+    }
+
+    // Reads what is there; at its end, the client is told so.
+    fn read(&mut self) {
+        match self.stdin.read(&mut self.input) {
+            Ok(0) | Err(_) => self.called(self.client.end_of_input()),
+            Ok(n) => {
+                self.at = 0;
+                self.have = n;
+            }
+        }
+    }
+
+    // Takes and gives as far as both go, and sends what was given. Where nothing moves, input is awaited.
+    fn turn(&mut self, lent: &mut [u8]) {
+        let Talk {
+            client,
+            room,
+            input,
+            at,
+            have,
+            ..
+        } = self;
+        let s = step(*client, &input[*at..*have], room, lent);
+        io::write_all(STDOUT, &room[..s.given]);
+        self.client = s.state;
+        self.outcome = s.outcome;
+        self.at += s.taken;
+        if self.is_open() && self.at == self.have && s.given == 0 {
+            self.read();
+        }
+    }
+
+    fn is_open(&self) -> bool {
+        matches!(self.outcome, Outcome::Open)
+    }
+
+    // Makes a call and drives it until it is closed.
+    // A proved loop has to end, and nothing says that a server answers: its turns are more than any run uses up.
+    pub fn drive(&mut self, c: Called, lent: &mut [u8]) {
+        self.called(c);
+        for _ in 0..u64::MAX {
+            if !self.is_open() {
+                break;
+            }
+            self.turn(lent);
+        }
+    }
 }

@@ -13,10 +13,8 @@ const ENAMETOOLONG: i32 = 36;
 pub fn count(rt: &impl Env) -> usize {
     let mut word = io::buffer();
     for i in 0..usize::MAX {
-        match rt.arg(i, &mut word) {
-            Ok(_) => {}
-            Err(FillError::TooLong) => {}
-            Err(FillError::NotPresent) => return i,
+        if matches!(rt.arg(i, &mut word), Err(FillError::NotPresent)) {
+            return i;
         }
     }
     usize::MAX
@@ -26,9 +24,10 @@ pub fn count(rt: &impl Env) -> usize {
 pub fn get(rt: &impl Env, i: usize, buf: &mut [u8]) -> std::io::Result<usize>
     ensures { ReadsAtMost result buf.new }
 {
-    match rt.arg(i, buf) {
-        Ok(n) => Ok(n),
-        Err(FillError::NotPresent) => Err(Error::from_raw_os_error(EINVAL)),
-        Err(FillError::TooLong) => Err(Error::from_raw_os_error(ENAMETOOLONG)),
-    }
+    rt.arg(i, buf).map_err(|e| {
+        Error::from_raw_os_error(match e {
+            FillError::NotPresent => EINVAL,
+            FillError::TooLong => ENAMETOOLONG,
+        })
+    })
 }

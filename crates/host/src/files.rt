@@ -1,9 +1,10 @@
 // Whole files, and parts of them.
 ghost use Rattle.std.specs.Prelude.{◌+◌, ◌≤◌, length};
+ghost use Rattle.std.specs.Io.{ReadsAtMost};
 ghost use Rattle.host.specs.Files.{GotIn};
 
 use std::fs::{File, OpenOptions};
-use std::io::{Error, Read, Result};
+use std::io::{Error, ErrorKind, Read, Result};
 use std::os::unix::fs::FileExt;
 use std::rt::Files;
 
@@ -17,14 +18,6 @@ const EILSEQ: i32 = 84;
 // The longest path, and a byte more.
 const PATH: usize = 4096;
 
-// What a file held.
-#[derive(Clone, Copy)]
-pub enum Got {
-    Bytes(usize),
-    // and why
-    Unreadable(Error),
-}
-
 // ---- files by their names
 
 // The file's name as std takes it: as text, and so only where it is UTF-8.
@@ -35,10 +28,7 @@ fn path(name: &[u8]) -> Result<&str> {
     if name.contains(&0) {
         return Err(Error::from_raw_os_error(EINVAL));
     }
-    match std::str::from_utf8(name) {
-        Ok(text) => Ok(text),
-        Err(_) => Err(Error::from_raw_os_error(EILSEQ)),
-    }
+    std::str::from_utf8(name).map_err(|_| Error::from_raw_os_error(EILSEQ))
 }
 
 // Opens the file for reading.
@@ -62,39 +52,56 @@ pub fn open_overwrite(rt: &impl Files<File = File>, name: &[u8]) -> Result<File>
 // ---- their bytes
 
 // Reads to the front of the buffer until the file ends or the buffer is full. A buffer of one byte more than is wanted shows a file that is too long.
-pub fn read_file(file: &mut impl Read, buf: &mut [u8]) -> Got
-    ensures { GotIn (length buf.old) result }
+pub fn fill(file: &mut impl Read, buf: &mut [u8]) -> Result<usize>
+    ensures { ReadsAtMost result buf.new }
 {
     let mut done = 0;
     while done < buf.len() {
-        match file.read(&mut buf[done..]) {
-            Ok(n) => {
-                if n == 0 {
-                    return Got::Bytes(done);
-                }
-                done += n;
-            }
-            Err(e) => return Got::Unreadable(e),
+        let n = file.read(&mut buf[done..])?;
+        if n == 0 {
+            break;
         }
+        done += n;
     }
-    Got::Bytes(done)
+    Ok(done)
 }
 
-// Writes the bytes at this place of the file. Whether all of them are there.
-pub fn put(file: &File, bytes: &[u8], place: usize) -> bool
+// Writes the bytes at this place of the file, and fails if any of them is not there. (std's `write_all_at` tries again after an interrupted write.)
+pub fn write(file: &File, bytes: &[u8], place: usize) -> Result<()>
     requires { place + length bytes.now ≤ 9223372036854775807 }
 {
     let mut done = 0;
     while done < bytes.len() {
-        match file.write_at(&bytes[done..], (place + done) as u64) {
-            Ok(n) => {
-                if n == 0 {
-                    return false;
-                }
-                done += n;
-            }
-            Err(_) => return false,
+        let n = file.write_at(&bytes[done..], (place + done) as u64)?;
+        if n == 0 {
+            return Err(Error::from(ErrorKind::WriteZero));
         }
+        done += n;
     }
-    true
+    Ok(())
+}
+
+// ---- what serve still calls
+
+// What a file held.
+#[derive(Clone, Copy)]
+pub enum Got {
+    Bytes(usize),
+    // and why
+    Unreadable(Error),
+}
+
+pub fn read_file(file: &mut impl Read, buf: &mut [u8]) -> Got
+    ensures { GotIn (length buf.old) result }
+{
+    match fill(file, buf) {
+        Ok(n) => Got::Bytes(n),
+        Err(e) => Got::Unreadable(e),
+    }
+}
+
+pub fn put(file: &File, bytes: &[u8], place: usize) -> bool
+    requires { place + length bytes.now ≤ 9223372036854775807 }
+{
+    write(file, bytes, place).is_ok()
 }

@@ -1,8 +1,8 @@
 // Lines of text for programs: words between blanks, decimal numbers, names that may be quoted; `#` starts a comment. Places are within the line.
-ghost use Rattle.std.specs.Prelude.{◌≡◌, min, ◌+◌, ◌≤◌, length};
+ghost use Rattle.std.specs.Prelude.{◌≤◌, length};
 ghost use Rattle.host.specs.Text.{Behind, NumberIn, NameIn, GlyphIn};
 
-use wire::fields;
+use std::fmt;
 
 // What is wrong with a line.
 #[derive(Clone, Copy)]
@@ -14,33 +14,54 @@ pub enum Mistake {
     Word,
 }
 
-#[derive(Clone, Copy)]
-pub enum Number {
-    Is { value: u64, next: usize },
-    Bad,
+impl fmt::Display for Mistake {
+    fn fmt<W: fmt::Write>(&self, f: &mut fmt::Formatter<W>) -> fmt::Result {
+        f.write_str(match self {
+            Mistake::NoQuote => "a quote is missing, or one is too much",
+            Mistake::Escape => "behind a backslash, only \\\\, \\\" and \\xHH are known",
+            Mistake::LongName => "the name is longer than 4096 bytes",
+            Mistake::NoNumber =>
+                "behind the name, start and size are two decimal numbers below 2^64",
+            Mistake::Word => "only the words readonly, resizeable, rotational and trim may follow",
+        })
+    }
 }
 
+// A number of a line, and the place behind it.
 #[derive(Clone, Copy)]
-pub enum Name {
-    Is { len: usize, next: usize },
-    Bad(Mistake),
+pub struct Number {
+    pub value: u64,
+    pub next: usize,
 }
 
-// What stands at a place of a quoted name.
+// How many bytes a name has, and the place behind it.
 #[derive(Clone, Copy)]
-pub enum Glyph {
-    Byte { byte: u8, next: usize },
-    Close(usize),
-    Bad(Mistake),
+pub struct Name {
+    pub len: usize,
+    pub next: usize,
+}
+
+// A byte of a quoted name, or none for its last quote, and the place behind it.
+#[derive(Clone, Copy)]
+pub struct Glyph {
+    pub byte: Option<u8>,
+    pub next: usize,
 }
 
 fn is_blank(b: u8) -> bool {
-    b == b' ' || b == b'\t' || b == b'\r'
+    matches!(b, b' ' | b'\t' | b'\r')
 }
 
-// Whether a word ends before this byte.
-fn parts(b: u8) -> bool {
-    is_blank(b) || b == b'#'
+// The first place from `at` on whose byte is such a one, or else the line's end.
+fn find<F: Fn(u8) -> bool>(line: &[u8], at: usize, is_such: F) -> usize
+    requires place { at ≤ length line.now }
+    requires callable { F.IsAlwaysCallable is_such }
+    ensures { Behind at (length line.now) result }
+{
+    match line[at..].iter().position(|b| is_such(*b)) {
+        Some(n) => at + n,
+        None => line.len(),
+    }
 }
 
 // The first place from `at` on that is no blank.
@@ -48,23 +69,7 @@ pub fn skip(line: &[u8], at: usize) -> usize
     requires { at ≤ length line.now }
     ensures { Behind at (length line.now) result }
 {
-    let mut i = at;
-    while i < line.len() {
-        if !is_blank(line[i]) {
-            return i;
-        }
-        i += 1;
-    }
-    i
-}
-
-// Whether nothing but a comment stands there.
-pub fn is_end(line: &[u8], at: usize) -> bool {
-    if at < line.len() {
-        line[at] == b'#'
-    } else {
-        true
-    }
+    find(line, at, |b| !is_blank(b))
 }
 
 // The end of the word that stands there.
@@ -72,216 +77,126 @@ pub fn word_end(line: &[u8], at: usize) -> usize
     requires { at ≤ length line.now }
     ensures { Behind at (length line.now) result }
 {
-    let mut i = at;
-    while i < line.len() {
-        if parts(line[i]) {
-            return i;
-        }
-        i += 1;
-    }
-    i
+    find(line, at, |b| is_blank(b) || b == b'#')
+}
+
+// Whether nothing but a comment stands there.
+pub fn is_end(line: &[u8], at: usize) -> bool {
+    line.get(at).is_none_or(|b| *b == b'#')
 }
 
 // ---- numbers
 
-// A decimal digit's value; 10 for any other byte.
-fn digit(b: u8) -> u64 {
-    if b < b'0' {
-        return 10;
-    }
-    if b'9' < b {
-        return 10;
-    }
-    (b - b'0') as u64
-}
-
 // A whole word of decimal digits, below 2^64.
-pub fn number_at(line: &[u8], at: usize) -> Number
+pub fn number_at(line: &[u8], at: usize) -> Option<Number>
     requires { at ≤ length line.now }
     ensures { NumberIn (length line.now) result }
 {
-    let end = word_end(line, at);
-    let mut i = at;
+    let next = word_end(line, at);
+    if next == at {
+        return None;
+    }
     let mut value: u64 = 0;
-    while i < end {
-        let d = digit(line[i]);
-        if 9 < d {
-            return Number::Bad;
-        }
-        if 1844674407370955161 < value {
-            return Number::Bad;
-        }
-        let tens = value * 10;
-        if u64::MAX - tens < d {
-            return Number::Bad;
-        }
-        value = tens + d;
-        i += 1;
+    for b in &line[at..next] {
+        let digit = char::from(*b).to_digit(10)?;
+        value = value.checked_mul(10)?.checked_add(u64::from(digit))?;
     }
-    if end == at {
-        return Number::Bad;
-    }
-    Number::Is { value, next: end }
+    Some(Number { value, next })
 }
 
 // ---- names
 
-// A hexadecimal digit's value; 16 for any other byte.
-fn hex_digit(b: u8) -> u8 {
-    match b {
-        b'0'..=b'9' => b - b'0',
-        b'a'..=b'f' => b - b'a' + 10,
-        b'A'..=b'F' => b - b'A' + 10,
-        _ => 16,
-    }
+// The byte that two hexadecimal digits name.
+fn hex_byte(high: u8, low: u8) -> Option<u8> {
+    let high = char::from(high).to_digit(16)?;
+    let low = char::from(low).to_digit(16)?;
+    Some((16 * high + low) as u8)
 }
 
 // Behind a backslash: itself, a quote, or `x` and two hexadecimal digits.
-fn escaped(line: &[u8], at: usize) -> Glyph
+fn escaped(line: &[u8], at: usize) -> Result<Glyph, Mistake>
     requires { at ≤ length line.now }
     ensures { GlyphIn (length line.now) result }
 {
-    if line.len() - at < 1 {
-        return Glyph::Bad(Mistake::Escape);
-    }
-    let b = line[at];
-    if b == b'"' || b == b'\\' {
-        return Glyph::Byte {
-            byte: b,
+    match &line[at..] {
+        [b @ (b'"' | b'\\'), ..] => Ok(Glyph {
+            byte: Some(*b),
             next: at + 1,
-        };
-    }
-    if b != b'x' {
-        return Glyph::Bad(Mistake::Escape);
-    }
-    if line.len() - at < 3 {
-        return Glyph::Bad(Mistake::Escape);
-    }
-    let high = hex_digit(line[at + 1]);
-    let low = hex_digit(line[at + 2]);
-    if 15 < high {
-        return Glyph::Bad(Mistake::Escape);
-    }
-    if 15 < low {
-        return Glyph::Bad(Mistake::Escape);
-    }
-    Glyph::Byte {
-        byte: 16 * high + low,
-        next: at + 3,
+        }),
+        [b'x', high, low, ..] => match hex_byte(*high, *low) {
+            Some(byte) => Ok(Glyph {
+                byte: Some(byte),
+                next: at + 3,
+            }),
+            None => Err(Mistake::Escape),
+        },
+        _ => Err(Mistake::Escape),
     }
 }
 
 // What stands at a place of a quoted name, behind its first quote.
-fn glyph_at(line: &[u8], at: usize) -> Glyph
+fn glyph_at(line: &[u8], at: usize) -> Result<Glyph, Mistake>
     requires { at ≤ length line.now }
     ensures { GlyphIn (length line.now) result }
 {
-    if at == line.len() {
-        return Glyph::Bad(Mistake::NoQuote);
-    }
-    match line[at] {
-        b'"' => Glyph::Close(at + 1),
-        b'\\' => escaped(line, at + 1),
-        b => Glyph::Byte {
-            byte: b,
+    match line.get(at) {
+        None => Err(Mistake::NoQuote),
+        Some(b'\\') => escaped(line, at + 1),
+        Some(b) => Ok(Glyph {
+            byte: if *b == b'"' { None } else { Some(*b) },
             next: at + 1,
-        },
+        }),
     }
 }
 
 // A quoted name, from behind its first quote.
-fn quoted(line: &[u8], at: usize, name: &mut [u8]) -> Name
+fn quoted(line: &[u8], at: usize, name: &mut [u8]) -> Result<Name, Mistake>
     requires { at ≤ length line.now }
     ensures { NameIn (length name.old) (length line.now) result }
 {
-    let mut i = at;
-    let mut n = 0;
-    while n < name.len() {
-        let g = glyph_at(line, i);
-        match g {
-            Glyph::Byte { byte, next } => {
-                name[n] = byte;
-                i = next;
-            }
-            Glyph::Close(next) => return Name::Is { len: n, next },
-            Glyph::Bad(m) => return Name::Bad(m),
+    let mut next = at;
+    for (len, place) in name.iter_mut().enumerate() {
+        let glyph = glyph_at(line, next)?;
+        next = glyph.next;
+        match glyph.byte {
+            Some(byte) => *place = byte,
+            None => return Ok(Name { len, next }),
         }
-        n += 1;
     }
-    let g = glyph_at(line, i);
-    match g {
-        Glyph::Byte { .. } => Name::Bad(Mistake::LongName),
-        Glyph::Close(next) => Name::Is { len: n, next },
-        Glyph::Bad(m) => Name::Bad(m),
+    let glyph = glyph_at(line, next)?;
+    match glyph.byte {
+        Some(_) => Err(Mistake::LongName),
+        None => Ok(Name {
+            len: name.len(),
+            next: glyph.next,
+        }),
     }
 }
 
 // A name that is one word without quotes.
-fn plain(line: &[u8], at: usize, name: &mut [u8]) -> Name
+fn plain(line: &[u8], at: usize, name: &mut [u8]) -> Result<Name, Mistake>
     requires { at ≤ length line.now }
     ensures { NameIn (length name.old) (length line.now) result }
 {
-    let end = word_end(line, at);
-    if name.len() < end - at {
-        return Name::Bad(Mistake::LongName);
+    let next = word_end(line, at);
+    let word = &line[at..next];
+    let len = word.len();
+    if name.len() < len {
+        return Err(Mistake::LongName);
     }
-    let mut i = at;
-    while i < end {
-        if line[i] == b'"' {
-            return Name::Bad(Mistake::NoQuote);
-        }
-        name[i - at] = line[i];
-        i += 1;
+    if word.contains(&b'"') {
+        return Err(Mistake::NoQuote);
     }
-    Name::Is {
-        len: end - at,
-        next: end,
-    }
+    name[..len].copy_from_slice(word);
+    Ok(Name { len, next })
 }
 
-pub fn name_at(line: &[u8], at: usize, name: &mut [u8]) -> Name
+pub fn name_at(line: &[u8], at: usize, name: &mut [u8]) -> Result<Name, Mistake>
     requires { at ≤ length line.now }
     ensures { NameIn (length name.old) (length line.now) result }
 {
-    if at < line.len() {
-        if line[at] == b'"' {
-            return quoted(line, at + 1, name);
-        }
+    match line.get(at) {
+        Some(b'"') => quoted(line, at + 1, name),
+        _ => plain(line, at, name),
     }
-    plain(line, at, name)
-}
-
-// ---- words
-
-pub fn same(a: &[u8], b: &[u8]) -> bool {
-    if a.len() == b.len() {
-        fields::same(a, b)
-    } else {
-        false
-    }
-}
-
-// ---- lines
-
-// The end of the line that begins at `at`.
-pub fn line_end(text: &[u8], at: usize) -> usize
-    requires { at ≤ length text.now }
-    ensures { (at ≤ result) × (result ≤ length text.now) }
-{
-    let mut i = at;
-    while i < text.len() {
-        if text[i] == b'\n' {
-            return i;
-        }
-        i += 1;
-    }
-    i
-}
-
-// The place behind a line that ends at `end`.
-pub fn behind(end: usize, most: usize) -> usize
-    requires { end ≤ most }
-    ensures { result ≡ min (end + 1) most }
-{
-    if end < most { end + 1 } else { end }
 }

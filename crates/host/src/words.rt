@@ -1,14 +1,29 @@
 // Messages on standard error.
-ghost use Rattle.std.specs.Prelude.{◌≤◌, length};
+ghost use Rattle.std.specs.Prelude.{◌≤◌};
 
 use std::fmt;
-use std::fmt::Write;
+use std::fmt::{Display, Write};
 use std::io::Error;
 
 const STDERR: i32 = 2;
 
 pub fn say(text: &[u8]) {
     io::write_all(STDERR, text);
+}
+
+// Standard error, as `write!` takes it.
+#[derive(Clone, Copy)]
+struct Stderr;
+
+impl fmt::Write for Stderr {
+    fn write_str(&mut self, s: &str) -> fmt::Result {
+        say(s.as_bytes());
+        Ok(())
+    }
+}
+
+pub fn tell(message: impl Display + Drop) {
+    let _ = write!(Stderr, "{message}");
 }
 
 pub fn say_number(n: u64) {
@@ -21,7 +36,7 @@ pub fn say_code(n: u8) {
     say(b": ");
 }
 
-// What an error shows itself as; what does not fit is left out.
+// What an error shows itself as; what does not fit is left out. A `String` in place of the array could fail for want of memory.
 #[derive(Drop)]
 struct Shown {
     text: [u8; 256],
@@ -31,28 +46,19 @@ struct Shown {
 
 impl fmt::Write for Shown {
     fn write_str(&mut self, s: &str) -> fmt::Result {
-        for b in s.as_bytes() {
-            if self.len < 256 {
-                self.text[self.len] = *b;
-                self.len += 1;
-            }
-        }
+        let end = self.len + s.len().min(256 - self.len);
+        self.text[self.len..end].copy_from_slice(&s.as_bytes()[..end - self.len]);
+        self.len = end;
         Ok(())
     }
 }
 
-// Where the text of an error ends: behind it std writes " (os error 2)".
-fn text_end(text: &[u8]) -> usize
-    ensures { result ≤ length text.now }
-{
-    let mut i = text.len();
-    while i > 0 {
-        i -= 1;
-        if text[i] == b'(' {
-            return if i == 0 { 0 } else { i - 1 };
-        }
+// The text of an error without its number: behind the text std writes " (os error 2)".
+fn without_number(text: &[u8]) -> &[u8] {
+    match text.iter().rposition(|b| *b == b'(') {
+        Some(open) => &text[..open.saturating_sub(1)],
+        None => text,
     }
-    text.len()
 }
 
 // A line: what failed, as the caller names it, a colon and why, which is an error of the system's.
@@ -62,10 +68,8 @@ pub fn fail(what: &[u8], error: Error) {
         len: 0,
     };
     let _ = write!(shown, "{error}");
-    let text = &shown.text[..shown.len];
-    let end = text_end(text);
     say(what);
     say(b": ");
-    say(&text[..end]);
+    say(without_number(&shown.text[..shown.len]));
     say(b"\n");
 }

@@ -1,9 +1,8 @@
 -- What a line says.
---   ParsedIn k   its name has at most k bytes
-use Rattle.std.specs.Prelude.{ℕ, ◌≤◌}
-use Rattle.mktable.specs.declared.making.Parsed as par
+--   ParsedIn k   the record that it asks for, if any, has a name of at most k bytes
+use Rattle.std.specs.Prelude.{ℕ, ◌≤◌, Option, Result, IfSome, IfOk}
+use Rattle.host.specs.declared.text.Mistake.{Mistake}
+use Rattle.mktable.specs.declared.making.Record.{Record}
 
-abbrev pub ParsedIn : ℕ → par.Parsed → Type 0
-ParsedIn k par.Parsed.Nothing = Unit {0}
-ParsedIn k (par.Parsed.Record x len) = len ≤ k
-ParsedIn k (par.Parsed.Bad m) = Unit {0}
+abbrev pub ParsedIn : ℕ → Result (Option Record) Mistake → Type 0
+ParsedIn k r = IfOk r (λ (o : Option Record). IfSome o (λ (x : Record). x.len ≤ k))

@@ -11,11 +11,6 @@ fn write(text: &[u8]) {
     io::write_all(STDOUT, text);
 }
 
-fn write_byte(b: u8) {
-    let one = [b];
-    write(&one);
-}
-
 // A name's byte, between quotes.
 fn write_glyph(b: u8) {
     match b {
@@ -25,16 +20,14 @@ fn write_glyph(b: u8) {
             write(b"\\x");
             io::print_hex(STDOUT, b as u64, 2);
         }
-        _ => write_byte(b),
+        _ => write(&[b]),
     }
 }
 
 fn write_name(name: &[u8]) {
     write(b"\"");
-    let mut i = 0;
-    while i < name.len() {
-        write_glyph(name[i]);
-        i += 1;
+    for b in name {
+        write_glyph(*b);
     }
     write(b"\"");
 }
@@ -44,9 +37,8 @@ fn write_number(n: u64) {
     io::print_decimal(STDOUT, n);
 }
 
-// The word where the flags have this digit.
-fn write_flag(digit: u8, word: &[u8]) {
-    if digit == 1 {
+fn write_if(set: bool, word: &[u8]) {
+    if set {
         write(word);
     }
 }
@@ -55,38 +47,29 @@ fn write_export(x: Export) {
     write_number(x.start);
     write_number(x.size);
     let f = x.flags;
-    write_flag(f % 2, b" readonly");
-    write_flag(f / 2 % 2, b" resizeable");
-    write_flag(f / 4 % 2, b" rotational");
-    write_flag(f / 8 % 2, b" trim");
+    write_if(f & 1 != 0, b" readonly");
+    write_if(f & 2 != 0, b" resizeable");
+    write_if(f & 4 != 0, b" rotational");
+    write_if(f & 8 != 0, b" trim");
     write(b"\n");
 }
 
 fn write_record(table: &[u8], e: Entry)
     requires { Inside table.now e }
 {
-    let a = e.name;
-    let b = e.next;
-    write_name(&table[a..b]);
-    let x = e.export;
-    write_export(x);
+    write_name(&table[e.name..e.next]);
+    write_export(e.export);
 }
 
 // The records of a table that is sound.
 fn write_records(table: &[u8]) {
     let mut at = 1;
-    let mut left: usize = 32;
-    while 0 < left {
-        let f = table::front_at(table, at);
-        match f {
-            Front::End => return,
-            Front::Broken => return,
-            Front::Record(e) => {
-                write_record(table, e);
-                at = e.next;
-            }
-        }
-        left -= 1;
+    for _ in 0..table::MAX_RECORDS {
+        let Front::Record(e) = table::front_at(table, at) else {
+            return;
+        };
+        write_record(table, e);
+        at = e.next;
     }
 }
 

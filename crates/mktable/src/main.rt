@@ -6,8 +6,6 @@ mod flags;
 mod listing;
 mod making;
 
-use host::files::Got;
-use host::text::Number;
 use host::words::say;
 use host::{args, files, text, words};
 
@@ -19,18 +17,17 @@ const TEXT: usize = 2097152;
 const TABLE: usize = 135796;
 
 // The image's size.
-fn size(rt: &HostRuntime) -> Number {
+fn size(rt: &HostRuntime) -> Option<usize> {
     let mut word = io::buffer();
-    match args::get(rt, 1, &mut word) {
-        Ok(n) => text::number_at(&word[..n], 0),
-        Err(_) => Number::Bad,
-    }
+    let n = args::get(rt, 1, &mut word).ok()?;
+    let size = text::number_at(&word[..n], 0)?;
+    Some(size.value as usize)
 }
 
 fn is_list(rt: &HostRuntime) -> bool {
     let mut word = io::buffer();
     match args::get(rt, 2, &mut word) {
-        Ok(n) => text::same(&word[..n], b"list"),
+        Ok(n) => matches!(&word[..n], b"list"),
         Err(_) => false,
     }
 }
@@ -42,35 +39,28 @@ fn usage() {
 }
 
 fn obey(rt: &HostRuntime, image: usize, text: &[u8]) {
-    if args::count(rt) == 2 {
-        let mut table = [0u8; TABLE];
-        making::make(text, image, &mut table);
-    } else if args::count(rt) == 3 && is_list(rt) {
-        listing::list(text, image);
-    } else {
-        usage();
+    match args::count(rt) {
+        2 => {
+            let mut table = [0u8; TABLE];
+            making::make(text, image, &mut table);
+        }
+        3 if is_list(rt) => listing::list(text, image),
+        _ => usage(),
     }
 }
 
 fn run(rt: &HostRuntime, text: &mut [u8; TEXT]) {
-    let s = size(rt);
-    match s {
-        Number::Is { value, .. } => read_and_obey(rt, value as usize, text),
-        Number::Bad => usage(),
+    match size(rt) {
+        Some(image) => read_and_obey(rt, image, text),
+        None => usage(),
     }
 }
 
 fn read_and_obey(rt: &HostRuntime, image: usize, text: &mut [u8]) {
-    let got = files::read_file(&mut rt.stdin(), text);
-    match got {
-        Got::Bytes(n) => {
-            if n == text.len() {
-                say(b"mktable: standard input is too long\n");
-            } else {
-                obey(rt, image, &text[..n]);
-            }
-        }
-        Got::Unreadable(e) => words::fail(b"mktable: standard input", e),
+    match files::fill(&mut rt.stdin(), text) {
+        Ok(n) if n == text.len() => say(b"mktable: standard input is too long\n"),
+        Ok(n) => obey(rt, image, &text[..n]),
+        Err(e) => words::fail(b"mktable: standard input", e),
     }
 }
 

@@ -1,9 +1,9 @@
--- There are at most as many words as bytes.
-use Rattle.std.proofs.Common.{◌≤◌, length}
+-- Each word has a byte, so the bytes that are left become fewer.
+use Rattle.std.proofs.Common.{◌≤◌, ◌-◌, length}
 use Rattle.mktable.proofs.flags.words_at.Given as goal
 
-abbrev pub invariant-loop-left : goal.invariant-loop-left
-invariant-loop-left l = l.i ≤ length l.line
+abbrev pub invariant-loop-end : goal.invariant-loop-end
+invariant-loop-end l = l.i ≤ length l.line
 
-abbrev pub decreases-loop-left : goal.decreases-loop-left
-decreases-loop-left l = l.left
+abbrev pub decreases-loop-end : goal.decreases-loop-end
+decreases-loop-end l = length l.line - l.i

@@ -1,8 +1,8 @@
 use Rattle.std.proofs.Common.{◌-◌, ◌≤◌, length}
-use Rattle.host.proofs.files.read_file.Given as goal
+use Rattle.host.proofs.files.write.Given as goal
 
 abbrev pub invariant-loop-done : goal.invariant-loop-done
-invariant-loop-done g l = l.done ≤ length l.buf
+invariant-loop-done l = l.done ≤ length l.bytes
 
 abbrev pub decreases-loop-done : goal.decreases-loop-done
-decreases-loop-done g l = length l.buf - l.done
+decreases-loop-done l = length l.bytes - l.done
