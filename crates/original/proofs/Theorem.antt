@@ -32,7 +32,8 @@ use Rattle.server.specs.History.{Reached, fresh, stepped, Calls, done, call}
 use Rattle.server.specs.declared.state.Server.{Server}
 use Rattle.server.specs.declared.Stepped.{Stepped}
 use Rattle.server.specs.declared.state.Outcome.TheVariants.{Ended}
-use Rattle.server.specs.declared.oldstyle.HeaderAnswer.{HeaderAnswer}
+use Rattle.std.specs.Prelude.{Result, ⊤}
+use Rattle.server.specs.declared.oldstyle.NoRoom.{NoRoom}
 use Rattle.server.proofs.Kept.{next_good}
 use Rattle.server.proofs.Result.{in_range_for_ever}
 use Rattle.server.proofs.Cutting.{calls_session}
@@ -130,7 +131,7 @@ length_header : (size flags : ℕ) → length (oldstyle_header size flags) ≡ 1
 unfolding oldstyle_header be
 length_header size flags = refl
 
-pub header_same : {room room' : List ℕ} {size flags : ℕ} {r : HeaderAnswer} → Heads room size flags r room' → 152 ≤ length room
+pub header_same : {room room' : List ℕ} {size flags : ℕ} {r : Result ⊤ NoRoom} → Heads room size flags r room' → 152 ≤ length room
     → (header_of r ≡ None) × (take 152 room' ≡ oldstyle_header size flags) × (drop 152 room' ≡ drop 152 room)
 header_same {room} {room'} {size} {flags} p h =
     let enough = le-ltb (length room) 152 h in

@@ -7,6 +7,7 @@ pub mod Names
 pub mod Bounds
 pub mod Owing
 pub mod Records
+pub mod Idle
 pub mod Kept
 pub mod Tidy
 pub mod Numbers

@@ -40,8 +40,8 @@ use Rattle.server.specs.declared.state.Server.{Server}
 use Rattle.server.specs.declared.Stepped.{Stepped}
 use Rattle.server.specs.declared.InputEnded.{InputEnded}
 use Rattle.server.specs.declared.state.Outcome.TheVariants.{Ended, Refused}
-use Rattle.server.specs.declared.oldstyle.HeaderAnswer.{HeaderAnswer}
-use Rattle.server.specs.declared.oldstyle.HeaderAnswer.TheVariants.{Written, NoRoom}
+use Rattle.server.specs.declared.oldstyle.NoRoom.{NoRoom}
+use Rattle.std.specs.Prelude.{Result, Ok, Err, ⊤}
 use Rattle.server.proofs.Bounds.{accepted}
 use Rattle.server.proofs.Kept.{still_good, next_good}
 use Rattle.server.proofs.Tidy.{Digits, over_digits, in_range_lem, coded, used_fits}
@@ -74,15 +74,15 @@ same_result {self} {t} {m} {r = r} {r' = r'} {m' = m'} {m'' = m''} {room' = room
 pub same_closed : {self : Server} {r r' : InputEnded} → Closes self r → Closes self r' → r ≡ r'
 same_closed p q = p.result ∙ sym q.result
 
-pub same_header : {room : List ℕ} {size flags : ℕ} {r r' : HeaderAnswer} {room' room'' : List ℕ}
+pub same_header : {room : List ℕ} {size flags : ℕ} {r r' : Result ⊤ NoRoom} {room' room'' : List ℕ}
     → Heads room size flags r room' → Heads room size flags r' room'' → (r ≡ r') × (room' ≡ room'')
 same_header {r = r} {r' = r'} p q = (one_answer r r' (p.number ∙ sym q.number), p.written ∙ sym q.written)
   where
-    one_answer : (a b : HeaderAnswer) → header_of a ≡ header_of b → a ≡ b
-    one_answer Written Written e = refl
-    one_answer Written NoRoom e = absurd (let z : ◌≡◌ {A = ℕ} 0 1 = cc in omega arith)
-    one_answer NoRoom Written e = absurd (let z : ◌≡◌ {A = ℕ} 0 1 = cc in omega arith)
-    one_answer NoRoom NoRoom e = refl
+    one_answer : (a b : Result ⊤ NoRoom) → header_of a ≡ header_of b → a ≡ b
+    one_answer (Ok t) (Ok u) e = refl
+    one_answer (Ok t) (Err b) e = absurd (let z : ◌≡◌ {A = ℕ} 0 1 = cc in omega arith)
+    one_answer (Err a) (Ok u) e = absurd (let z : ◌≡◌ {A = ℕ} 0 1 = cc in omega arith)
+    one_answer (Err a) (Err b) e = refl
 
 -- ---- the ranges
 module _ {self : Server} {t m input room : List ℕ} {r : Stepped} {m' room' : List ℕ} (p : Serves self t m input room r m' room') where

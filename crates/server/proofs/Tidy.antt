@@ -36,12 +36,12 @@ abbrev DigitsShaking : hs.Handshake → Type 0
 DigitsShaking (hs.Handshake.Greeting left) = Unit {0}
 DigitsShaking (hs.Handshake.ClientFlags have) = Unit {0}
 DigitsShaking (hs.Handshake.OptionHead z have) = Unit {0}
-DigitsShaking (hs.Handshake.Naming z fits text at left) = fits < 2 ^ 32
-DigitsShaking (hs.Handshake.Passing z option len left) = Unit {0}
+DigitsShaking (hs.Handshake.Naming n) = n.fits < 2 ^ 32
+DigitsShaking (hs.Handshake.Passing p) = Unit {0}
 DigitsShaking (hs.Handshake.Listing z left) = Unit {0}
-DigitsShaking (hs.Handshake.Declining z option left) = Unit {0}
+DigitsShaking (hs.Handshake.Declining d) = Unit {0}
 DigitsShaking (hs.Handshake.Aborting left) = Unit {0}
-DigitsShaking (hs.Handshake.Exporting z e left) = Unit {0}
+DigitsShaking (hs.Handshake.Exporting x) = Unit {0}
 
 abbrev pub Digits : ph.Phase → Type 0
 Digits (ph.Phase.Shaking p) = DigitsShaking p
@@ -60,31 +60,29 @@ module _ (h : List ℕ) (long : length h ≡ 28) where
   coded_shaking (hs.Handshake.Greeting left) q d = refl
   coded_shaking (hs.Handshake.ClientFlags have) q d = rw (length-take-le have h (omega arith))
   coded_shaking (hs.Handshake.OptionHead z have) q d = rw (length-take-le have h (omega arith))
-  coded_shaking (hs.Handshake.Naming z fits text at left) q d = rw (word_bits 32 fits d)
-  coded_shaking (hs.Handshake.Passing z option len left) q d = refl
+  coded_shaking (hs.Handshake.Naming n) q d = rw (word_bits 32 n.fits d)
+  coded_shaking (hs.Handshake.Passing p) q d = refl
   coded_shaking (hs.Handshake.Listing z left) q d = refl
-  coded_shaking (hs.Handshake.Declining z option left) q d = refl
+  coded_shaking (hs.Handshake.Declining x) q d = refl
   coded_shaking (hs.Handshake.Aborting left) q d = refl
-  coded_shaking (hs.Handshake.Exporting z e left) q d = refl
+  coded_shaking (hs.Handshake.Exporting x) q d = refl
 
   coded_serving : (e : Export) (p : tr.Transmission) → used_serving p ≤ 28
       → code (Serving e (transmission_of h p)) ≡ record { phase = ph.Phase.Serving e p; head = take (used_serving p) h ++ replicate (28 - used_serving p) 0 }
   coded_serving e (tr.Transmission.Header have) q = rw (length-take-le have h (omega arith))
-  coded_serving e (tr.Transmission.Storing handle off left) q = refl
-  coded_serving e (tr.Transmission.Dropping error handle left) q = refl
-  coded_serving e (tr.Transmission.Replying error handle left off len) q = refl
-  coded_serving e (tr.Transmission.Sending off left) q = refl
+  coded_serving e (tr.Transmission.Storing p) q = refl
+  coded_serving e (tr.Transmission.Dropping p) q = refl
+  coded_serving e (tr.Transmission.Replying r) q = refl
+  coded_serving e (tr.Transmission.Sending s) q = refl
 
   pub coded : (p : ph.Phase) → used p ≤ 28 → Digits p → code (view_of h p) ≡ record { phase = p; head = take (used p) h ++ replicate (28 - used p) 0 }
   coded (ph.Phase.Shaking p) q d = coded_shaking p q d
   coded (ph.Phase.Serving e p) q d = coded_serving e p q
   coded (ph.Phase.Over n) q d = refl
 
-  pub copied : (p : ph.Phase) (k : ℕ) {l : List ℕ} → used p ≤ 28 → Digits p → k ≡ used p → l ≡ paste (replicate 28 0) 0 (drop 0 h) k
+  pub copied : (p : ph.Phase) (k : ℕ) {l : List ℕ} → used p ≤ 28 → Digits p → k ≡ used p → l ≡ take k h ++ drop k (replicate 28 0)
       → ◌≡◌ {A = Server} (record { phase = p; head = l }) (code (view_of h p))
-  copied p k q d e f =
-      let z : 0 + used p ≡ used p = omega arith in
-      rw (f, e, coded p q d, z, drop_replicate 28 (used p) 0)
+  copied p k q d e f = rw (f, e, coded p q d, drop_replicate 28 (used p) 0)
 
   -- ---- how much a phase uses
   below : (have k : ℕ) → k ≤ 28 → ltb (length (take have h)) k ≡ true → have ≤ 28
@@ -94,19 +92,19 @@ module _ (h : List ℕ) (long : length h ≡ 28) where
   fits_shaking (hs.Handshake.Greeting left) e = omega arith
   fits_shaking (hs.Handshake.ClientFlags have) e = below have 4 (omega arith) e
   fits_shaking (hs.Handshake.OptionHead z have) e = below have 16 (omega arith) e
-  fits_shaking (hs.Handshake.Naming z fits text at left) e = omega arith
-  fits_shaking (hs.Handshake.Passing z option len left) e = omega arith
+  fits_shaking (hs.Handshake.Naming n) e = omega arith
+  fits_shaking (hs.Handshake.Passing p) e = omega arith
   fits_shaking (hs.Handshake.Listing z left) e = omega arith
-  fits_shaking (hs.Handshake.Declining z option left) e = omega arith
+  fits_shaking (hs.Handshake.Declining d) e = omega arith
   fits_shaking (hs.Handshake.Aborting left) e = omega arith
-  fits_shaking (hs.Handshake.Exporting z x left) e = omega arith
+  fits_shaking (hs.Handshake.Exporting x) e = omega arith
 
   fits_serving : (x : Export) (p : tr.Transmission) → ranged_serving x (transmission_of h p) ≡ true → used_serving p ≤ 28
   fits_serving x (tr.Transmission.Header have) e = below have 28 (omega arith) e
-  fits_serving x (tr.Transmission.Storing handle off left) e = omega arith
-  fits_serving x (tr.Transmission.Dropping error handle left) e = omega arith
-  fits_serving x (tr.Transmission.Replying error handle left off len) e = omega arith
-  fits_serving x (tr.Transmission.Sending off left) e = omega arith
+  fits_serving x (tr.Transmission.Storing p) e = omega arith
+  fits_serving x (tr.Transmission.Dropping p) e = omega arith
+  fits_serving x (tr.Transmission.Replying r) e = omega arith
+  fits_serving x (tr.Transmission.Sending s) e = omega arith
 
   pub used_fits : (p : ph.Phase) → ranged (view_of h p) ≡ true → used p ≤ 28
   used_fits (ph.Phase.Shaking p) e = fits_shaking p e

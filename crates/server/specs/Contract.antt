@@ -10,7 +10,7 @@
 --   Closes        the host reports the end of input
 --   header_of      01's number for each answer of the old-style header
 --   Heads         the old-style header
-use Rattle.std.specs.Prelude.{ℕ, ◌≡◌, Bool, List, [], ◌++◌, ltb, length, drop, Option, None, Some}
+use Rattle.std.specs.Prelude.{ℕ, ◌≡◌, Bool, List, [], ◌++◌, ltb, length, drop, ⊤, Option, None, Some, Result, Ok, Err}
 use Rattle.machine.specs.Choice.{pick}
 use Rattle.machine.specs.Machine.{on, owes}
 use Rattle.machine.specs.Pieces.{Steps}
@@ -21,8 +21,7 @@ use Rattle.server.specs.Ranges.{in_range, refusal}
 use Rattle.server.specs.declared.state.Server.{Server}
 use Rattle.server.specs.declared.Stepped.{Stepped}
 use Rattle.server.specs.declared.InputEnded.{InputEnded}
-use Rattle.server.specs.declared.oldstyle.HeaderAnswer.{HeaderAnswer}
-use Rattle.server.specs.declared.oldstyle.HeaderAnswer.TheVariants.{Written, NoRoom}
+use Rattle.server.specs.declared.oldstyle.NoRoom.{NoRoom}
 use Rattle.server.specs.declared.state.Outcome.{Outcome}
 use Rattle.server.specs.declared.state.Outcome.TheVariants.{GoingOn, Ended, Refused}
 
@@ -92,10 +91,10 @@ pub record Closes (s : Server) (r : InputEnded) : Type 0 where
   pub number : number_of r.outcome ≡ Some (end_number s)
 
 -- "room under 152 bytes for the old-style header": 13, and nothing changes
-abbrev pub header_of : HeaderAnswer → Option ℕ
-header_of Written = None
-header_of NoRoom = Some 13
+abbrev pub header_of : Result ⊤ NoRoom → Option ℕ
+header_of (Ok t) = None
+header_of (Err why) = Some 13
 
-pub record Heads (room : List ℕ) (size flags : ℕ) (r : HeaderAnswer) (room' : List ℕ) : Type 0 where
+pub record Heads (room : List ℕ) (size flags : ℕ) (r : Result ⊤ NoRoom) (room' : List ℕ) : Type 0 where
   pub number : header_of r ≡ pick (ltb (length room) 152) (Some 13) None
   pub written : room' ≡ pick (ltb (length room) 152) room (oldstyle_header size flags ++ drop 152 room)

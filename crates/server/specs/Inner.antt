@@ -18,9 +18,9 @@ use Rattle.server.specs.Session.{Handshake, Greeting, ClientFlags, OptionHead, N
 use Rattle.server.specs.Session.{State, Shaking, list_replies, declined, aborted, exported, greeted, listing, declining, aborting, exporting, storing, sending, turn}
 use Rattle.server.specs.View.{view}
 use Rattle.server.specs.Ranges.{ranged, loan_fault}
+use Rattle.server.specs.declared.state.Server.{Server}
 use Rattle.machine.specs.declared.ends.Took.{Took}
 use Rattle.machine.specs.declared.ends.Gave.{Gave}
-use Rattle.server.specs.declared.state.Server.{Server}
 
 -- a state that a step accepts
 pub record Good (t : List ℕ) (n : ℕ) (x : State) : Type 0 where

@@ -19,19 +19,19 @@ abbrev pub handshake_of : List ℕ → hs.Handshake → Handshake
 handshake_of h (hs.Handshake.Greeting left) = Greeting left
 handshake_of h (hs.Handshake.ClientFlags have) = ClientFlags (take have h)
 handshake_of h (hs.Handshake.OptionHead z have) = OptionHead z (take have h)
-handshake_of h (hs.Handshake.Naming z fits text at left) = Naming z (set_of fits) text at left
-handshake_of h (hs.Handshake.Passing z option len left) = Passing z option len left
+handshake_of h (hs.Handshake.Naming n) = Naming n.zeroes (set_of n.fits) n.text n.at n.left
+handshake_of h (hs.Handshake.Passing p) = Passing p.zeroes p.option p.len p.left
 handshake_of h (hs.Handshake.Listing z left) = Listing z left
-handshake_of h (hs.Handshake.Declining z option left) = Declining z option left
+handshake_of h (hs.Handshake.Declining d) = Declining d.zeroes d.option d.left
 handshake_of h (hs.Handshake.Aborting left) = Aborting left
-handshake_of h (hs.Handshake.Exporting z e left) = Exporting z e left
+handshake_of h (hs.Handshake.Exporting x) = Exporting x.zeroes x.export x.left
 
 abbrev pub transmission_of : List ℕ → tr.Transmission → Transmission
 transmission_of h (tr.Transmission.Header have) = Header (take have h)
-transmission_of h (tr.Transmission.Storing handle off left) = Storing handle off left
-transmission_of h (tr.Transmission.Dropping error handle left) = Dropping error handle left
-transmission_of h (tr.Transmission.Replying error handle left off len) = Replying error handle left off len
-transmission_of h (tr.Transmission.Sending off left) = Sending off left
+transmission_of h (tr.Transmission.Storing p) = Storing p.handle p.off p.left
+transmission_of h (tr.Transmission.Dropping p) = Dropping p.error p.handle p.left
+transmission_of h (tr.Transmission.Replying r) = Replying r.error r.handle r.left r.off r.len
+transmission_of h (tr.Transmission.Sending d) = Sending d.off d.left
 
 abbrev pub view_of : List ℕ → ph.Phase → State
 view_of h (ph.Phase.Shaking p) = Shaking (handshake_of h p)
@@ -46,19 +46,19 @@ abbrev pub handshake_phase : Handshake → hs.Handshake
 handshake_phase (Greeting left) = hs.Handshake.Greeting left
 handshake_phase (ClientFlags got) = hs.Handshake.ClientFlags (length got)
 handshake_phase (OptionHead z got) = hs.Handshake.OptionHead z (length got)
-handshake_phase (Naming z fits text at left) = hs.Handshake.Naming z (word fits) text at left
-handshake_phase (Passing z option len left) = hs.Handshake.Passing z option len left
+handshake_phase (Naming z fits text at left) = hs.Handshake.Naming (record { zeroes = z; fits = word fits; text = text; at = at; left = left })
+handshake_phase (Passing z option len left) = hs.Handshake.Passing (record { zeroes = z; option = option; len = len; left = left })
 handshake_phase (Listing z left) = hs.Handshake.Listing z left
-handshake_phase (Declining z option left) = hs.Handshake.Declining z option left
+handshake_phase (Declining z option left) = hs.Handshake.Declining (record { zeroes = z; option = option; left = left })
 handshake_phase (Aborting left) = hs.Handshake.Aborting left
-handshake_phase (Exporting z e left) = hs.Handshake.Exporting z e left
+handshake_phase (Exporting z e left) = hs.Handshake.Exporting (record { zeroes = z; export = e; left = left })
 
 abbrev pub transmission_phase : Transmission → tr.Transmission
 transmission_phase (Header got) = tr.Transmission.Header (length got)
-transmission_phase (Storing handle off left) = tr.Transmission.Storing handle off left
-transmission_phase (Dropping error handle left) = tr.Transmission.Dropping error handle left
-transmission_phase (Replying error handle left off len) = tr.Transmission.Replying error handle left off len
-transmission_phase (Sending off left) = tr.Transmission.Sending off left
+transmission_phase (Storing handle off left) = tr.Transmission.Storing (record { handle = handle; off = off; left = left })
+transmission_phase (Dropping error handle left) = tr.Transmission.Dropping (record { error = error; handle = handle; left = left })
+transmission_phase (Replying error handle left off len) = tr.Transmission.Replying (record { error = error; handle = handle; left = left; off = off; len = len })
+transmission_phase (Sending off left) = tr.Transmission.Sending (record { off = off; left = left })
 
 abbrev pub phase_of : State → ph.Phase
 phase_of (Shaking p) = ph.Phase.Shaking (handshake_phase p)
@@ -101,19 +101,19 @@ abbrev pub used_shaking : hs.Handshake → ℕ
 used_shaking (hs.Handshake.Greeting left) = 0
 used_shaking (hs.Handshake.ClientFlags have) = have
 used_shaking (hs.Handshake.OptionHead z have) = have
-used_shaking (hs.Handshake.Naming z fits text at left) = 0
-used_shaking (hs.Handshake.Passing z option len left) = 0
+used_shaking (hs.Handshake.Naming n) = 0
+used_shaking (hs.Handshake.Passing p) = 0
 used_shaking (hs.Handshake.Listing z left) = 0
-used_shaking (hs.Handshake.Declining z option left) = 0
+used_shaking (hs.Handshake.Declining d) = 0
 used_shaking (hs.Handshake.Aborting left) = 0
-used_shaking (hs.Handshake.Exporting z e left) = 0
+used_shaking (hs.Handshake.Exporting x) = 0
 
 abbrev pub used_serving : tr.Transmission → ℕ
 used_serving (tr.Transmission.Header have) = have
-used_serving (tr.Transmission.Storing handle off left) = 0
-used_serving (tr.Transmission.Dropping error handle left) = 0
-used_serving (tr.Transmission.Replying error handle left off len) = 0
-used_serving (tr.Transmission.Sending off left) = 0
+used_serving (tr.Transmission.Storing p) = 0
+used_serving (tr.Transmission.Dropping p) = 0
+used_serving (tr.Transmission.Replying r) = 0
+used_serving (tr.Transmission.Sending d) = 0
 
 abbrev pub used : ph.Phase → ℕ
 used (ph.Phase.Shaking p) = used_shaking p

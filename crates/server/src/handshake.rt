@@ -7,9 +7,9 @@ ghost use Rattle.server.specs.Ranges.{ranged_shaking};
 ghost use Rattle.server.specs.Contract.{owes_output};
 ghost use Rattle.server.specs.Inner.{reply_of, left_of, with_left, Owes, Absorbed, Emitted};
 
-use crate::state::{Gave, Handshake, Phase, Server, Took};
+use crate::state::{Declining, Exporting, Gave, Handshake, Phase, Server, Took};
 use crate::{options, ranges};
-use machine::{copy, parts};
+use machine::parts;
 use wire::{consts, fields};
 
 // ---- the phases that follow where nothing may be left
@@ -56,8 +56,8 @@ fn greeting() -> [u8; 134]
     ensures { take 18 result ≡ greeting }
 {
     let mut bytes = [0u8; 134];
-    copy::copy_part(&consts::NBDMAGIC, 0, &mut bytes, 0, 8);
-    copy::copy_part(&consts::IHAVEOPT, 0, &mut bytes, 8, 8);
+    bytes[..8].copy_from_slice(&consts::NBDMAGIC);
+    bytes[8..16].copy_from_slice(&consts::IHAVEOPT);
     fields::write_u16(
         &mut bytes,
         16,
@@ -91,16 +91,6 @@ pub struct Reply {
     pub left: usize,
 }
 
-fn nothing() -> Reply
-    ensures { Owes [] 0 result.bytes result.len result.left }
-{
-    Reply {
-        bytes: [0u8; 134],
-        len: 0,
-        left: 0,
-    }
-}
-
 fn owed(p: Handshake) -> Reply
     ensures { (h : List ℕ) → Owes (reply_of (handshake_of h p)) (left_of (handshake_of h p)) result.bytes result.len result.left }
 {
@@ -115,29 +105,26 @@ fn owed(p: Handshake) -> Reply
             len: 51,
             left,
         },
-        Handshake::Declining { option, left, .. } => Reply {
-            bytes: options::option_reply(option, consts::NBD_REP_ERR_UNSUP, 0),
+        Handshake::Declining(d) => Reply {
+            bytes: options::option_reply(d.option, consts::NBD_REP_ERR_UNSUP, 0),
             len: 20,
-            left,
+            left: d.left,
         },
         Handshake::Aborting { left } => Reply {
             bytes: options::option_reply(consts::NBD_OPT_ABORT, consts::NBD_REP_ACK, 0),
             len: 20,
             left,
         },
-        Handshake::Exporting {
-            zeroes,
-            export,
-            left,
-        } => Reply {
-            bytes: options::export_reply(export),
-            len: ranges::reply_length(zeroes),
-            left,
+        Handshake::Exporting(x) => Reply {
+            bytes: options::export_reply(x.export),
+            len: ranges::reply_length(x.zeroes),
+            left: x.left,
         },
-        Handshake::ClientFlags { .. } => nothing(),
-        Handshake::OptionHead { .. } => nothing(),
-        Handshake::Naming { .. } => nothing(),
-        Handshake::Passing { .. } => nothing(),
+        _ => Reply {
+            bytes: [0u8; 134],
+            len: 0,
+            left: 0,
+        },
     }
 }
 
@@ -148,13 +135,10 @@ fn with_left(p: Handshake, left: usize) -> Phase
     match p {
         Handshake::Greeting { .. } => greeted(left),
         Handshake::Listing { zeroes, .. } => options::listing(zeroes, left),
-        Handshake::Declining { zeroes, option, .. } => options::declining(zeroes, option, left),
+        Handshake::Declining(d) => Declining { left, ..d }.phase(),
         Handshake::Aborting { .. } => options::aborting(left),
-        Handshake::Exporting { zeroes, export, .. } => options::exporting(zeroes, export, left),
-        Handshake::ClientFlags { .. } => Phase::Shaking(p),
-        Handshake::OptionHead { .. } => Phase::Shaking(p),
-        Handshake::Naming { .. } => Phase::Shaking(p),
-        Handshake::Passing { .. } => Phase::Shaking(p),
+        Handshake::Exporting(x) => Exporting { left, ..x }.phase(),
+        _ => Phase::Shaking(p),
     }
 }
 
@@ -162,17 +146,14 @@ fn with_left(p: Handshake, left: usize) -> Phase
 pub fn owes(p: Handshake) -> bool
     ensures { (h : List ℕ) → result ≡ owes_output (Shaking (handshake_of h p)) }
 {
-    match p {
-        Handshake::Greeting { .. } => true,
-        Handshake::ClientFlags { .. } => false,
-        Handshake::OptionHead { .. } => false,
-        Handshake::Naming { .. } => false,
-        Handshake::Passing { .. } => false,
-        Handshake::Listing { .. } => true,
-        Handshake::Declining { .. } => true,
-        Handshake::Aborting { .. } => true,
-        Handshake::Exporting { .. } => true,
-    }
+    matches!(
+        p,
+        Handshake::Greeting { .. }
+            | Handshake::Listing { .. }
+            | Handshake::Declining(_)
+            | Handshake::Aborting { .. }
+            | Handshake::Exporting(_)
+    )
 }
 
 // ---- the phases put together
@@ -187,36 +168,9 @@ pub fn absorb(head: [u8; 28], p: Handshake, table: &[u8], input: &[u8]) -> Took
         Handshake::OptionHead { zeroes, have } => options::take_option(
             head, zeroes, have, table, input,
         ),
-        Handshake::Naming {
-            zeroes,
-            fits,
-            text,
-            at,
-            left,
-        } => options::take_name(head, zeroes, fits, text, at, left, table, input),
-        Handshake::Passing {
-            zeroes,
-            option,
-            len,
-            left,
-        } => options::pass(head, zeroes, option, len, left, input.len()),
-        Handshake::Greeting { .. } => Took::none(Server {
-            phase: Phase::Shaking(p),
-            head,
-        }),
-        Handshake::Listing { .. } => Took::none(Server {
-            phase: Phase::Shaking(p),
-            head,
-        }),
-        Handshake::Declining { .. } => Took::none(Server {
-            phase: Phase::Shaking(p),
-            head,
-        }),
-        Handshake::Aborting { .. } => Took::none(Server {
-            phase: Phase::Shaking(p),
-            head,
-        }),
-        Handshake::Exporting { .. } => Took::none(Server {
+        Handshake::Naming(name) => name.take(head, table, input),
+        Handshake::Passing(payload) => payload.take(head, input.len()),
+        _ => Took::none(Server {
             phase: Phase::Shaking(p),
             head,
         }),

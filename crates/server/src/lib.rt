@@ -99,8 +99,7 @@ impl Server {
                 outcome: Outcome::Refused(Refusal::OutOfRange.number()),
             };
         }
-        let p = self.phase;
-        match p {
+        match self.phase {
             Phase::Shaking(h) => cut_off(self, handshake::owes(h)),
             Phase::Serving(_, t) => cut_off(self, transmission::owes(t)),
             Phase::Over(n) => InputEnded {

@@ -4,8 +4,6 @@ ghost use Rattle.wire.specs.Layouts.{option_reply_head};
 ghost use Rattle.wire.specs.Lookup.{set_of};
 ghost use Rattle.server.specs.Session.{
   OptionHead,
-  Naming,
-  Passing,
   Shaking,
   listing,
   declining,
@@ -20,11 +18,13 @@ ghost use Rattle.server.specs.Session.{
   list_replies,
   exported,
 };
-ghost use Rattle.server.specs.View.{view_of};
+ghost use Rattle.server.specs.View.{view_of, handshake_of};
 ghost use Rattle.server.specs.Inner.{option_until, Absorbed};
 
 use crate::ranges;
-use crate::state::{Handshake, Phase, Server, Took, Transmission};
+use crate::state::{
+    Declining, Exporting, Handshake, Naming, Passing, Phase, Server, Took, Transmission,
+};
 use machine::{copy, parts};
 use wire::table::Export;
 use wire::utf8::Utf8;
@@ -42,20 +42,6 @@ pub fn listing(zeroes: bool, left: usize) -> Phase
     }
 }
 
-pub fn declining(zeroes: bool, option: u32, left: usize) -> Phase
-    ensures { (h : List ℕ) → view_of h result ≡ declining zeroes option left }
-{
-    if left == 0 {
-        Phase::Shaking(Handshake::OptionHead { zeroes, have: 0 })
-    } else {
-        Phase::Shaking(Handshake::Declining {
-            zeroes,
-            option,
-            left,
-        })
-    }
-}
-
 pub fn aborting(left: usize) -> Phase
     ensures { (h : List ℕ) → view_of h result ≡ aborting left }
 {
@@ -66,106 +52,142 @@ pub fn aborting(left: usize) -> Phase
     }
 }
 
-pub fn exporting(zeroes: bool, export: Export, left: usize) -> Phase
-    ensures { (h : List ℕ) → view_of h result ≡ exporting zeroes export left }
-{
-    if left == 0 {
-        Phase::Serving(export, Transmission::Header { have: 0 })
-    } else {
-        Phase::Shaking(Handshake::Exporting {
-            zeroes,
-            export,
-            left,
-        })
+impl Declining {
+    pub fn phase(self) -> Phase
+        ensures { (h : List ℕ) → view_of h result ≡ declining self.zeroes self.option self.left }
+    {
+        if self.left == 0 {
+            Phase::Shaking(Handshake::OptionHead {
+                zeroes: self.zeroes,
+                have: 0,
+            })
+        } else {
+            Phase::Shaking(Handshake::Declining(self))
+        }
     }
 }
 
-// ---- what is judged
+impl Exporting {
+    pub fn phase(self) -> Phase
+        ensures { (h : List ℕ) → view_of h result ≡ exporting self.zeroes self.export self.left }
+    {
+        if self.left == 0 {
+            Phase::Serving(self.export, Transmission::Header { have: 0 })
+        } else {
+            Phase::Shaking(Handshake::Exporting(self))
+        }
+    }
+}
+
+// ---- a payload that is passed over
+
+impl Passing {
+    // What the option is answered, once all of its payload has been taken.
+    #[tactic(auto, unfolding(crate::specs::Session::answered))]
+    fn answered(self) -> Phase
+        ensures { (h : List ℕ) → view_of h result ≡ answered self.zeroes self.option self.len }
+    {
+        match self.option {
+            consts::NBD_OPT_ABORT => Phase::Shaking(Handshake::Aborting { left: 20 }),
+            consts::NBD_OPT_LIST if self.len == 0 => listing(self.zeroes, 51),
+            consts::NBD_OPT_LIST => Phase::Over(4),
+            consts::NBD_OPT_STARTTLS => Phase::Over(8),
+            consts::NBD_OPT_INFO
+            | consts::NBD_OPT_GO
+            | consts::NBD_OPT_STRUCTURED_REPLY
+            | consts::NBD_OPT_EXTENDED_HEADERS => Phase::Shaking(Handshake::Declining(Declining {
+                zeroes: self.zeroes,
+                option: self.option,
+                left: 20,
+            })),
+            _ => Phase::Over(9),
+        }
+    }
+
+    fn phase(self) -> Phase
+        ensures { (h : List ℕ) → view_of h result ≡ passing self.zeroes self.option self.len self.left }
+    {
+        if self.left == 0 {
+            self.answered()
+        } else {
+            Phase::Shaking(Handshake::Passing(self))
+        }
+    }
+
+    // Takes of `count` bytes as many as are left.
+    pub fn take(self, head: [u8; 28], count: usize) -> Took
+        requires { 0 < self.left }
+        ensures { (t m input : List ℕ) → length input ≡ count → Absorbed t (Shaking (handshake_of head (Handshake.Passing self))) m input result m }
+    {
+        let n = self.left.min(count);
+        let left = self.left - n;
+        let phase = Passing { left, ..self }.phase();
+        Took {
+            state: Server { phase, head },
+            taken: n,
+        }
+    }
+}
+
+// ---- a name
+
+impl Naming {
+    // The export with that name, once all of it has been taken.
+    fn named(self, table: &[u8]) -> Phase
+        ensures { (h : List ℕ) → view_of h result ≡ named self.zeroes table.now (set_of self.fits) self.text }
+    {
+        if !self.text.whole() {
+            return Phase::Over(5);
+        }
+        match lookup::lowest(self.fits) {
+            Some(k) => Phase::Shaking(Handshake::Exporting(Exporting {
+                zeroes: self.zeroes,
+                export: table::export_at(table, k),
+                left: ranges::reply_length(self.zeroes),
+            })),
+            None => Phase::Over(6),
+        }
+    }
+
+    fn phase(self, table: &[u8]) -> Phase
+        ensures { (h : List ℕ) → view_of h result ≡ naming self.zeroes table.now (set_of self.fits) self.text self.at self.left }
+    {
+        if self.left == 0 {
+            self.named(table)
+        } else {
+            Phase::Shaking(Handshake::Naming(self))
+        }
+    }
+
+    // Takes of the input as many bytes as are left.
+    pub fn take(self, head: [u8; 28], table: &[u8], input: &[u8]) -> Took
+        requires { (0 < self.left) × (self.at + self.left ≤ 100000) }
+        ensures { (m : List ℕ) → Absorbed table.now (Shaking (handshake_of head (Handshake.Naming self))) m input.now result m }
+    {
+        let n = self.left.min(input.len());
+        let part = &input[..n];
+        let name = Naming {
+            zeroes: self.zeroes,
+            fits: lookup::narrowed(self.fits, table, self.at, part),
+            text: self.text.run(part),
+            at: self.at + n,
+            left: self.left - n,
+        };
+        let phase = name.phase(table);
+        Took {
+            state: Server { phase, head },
+            taken: n,
+        }
+    }
+}
+
+// ---- an option's head
 
 // How many bytes of an option there are when the next is judged.
 fn until(have: usize) -> usize
     ensures { result ≡ option_until have }
 {
     if have < 8 { 8 } else { 16 }
-}
-
-// An option whose payload of len bytes has been taken, other than EXPORT_NAME.
-fn answered(zeroes: bool, option: u32, len: usize) -> Phase
-    ensures { (h : List ℕ) → view_of h result ≡ answered zeroes option len }
-{
-    let declined = Phase::Shaking(Handshake::Declining {
-        zeroes,
-        option,
-        left: 20,
-    });
-    match option {
-        consts::NBD_OPT_ABORT => Phase::Shaking(Handshake::Aborting { left: 20 }),
-        consts::NBD_OPT_LIST => if len == 0 {
-            Phase::Shaking(Handshake::Listing { zeroes, left: 51 })
-        } else {
-            Phase::Over(4)
-        },
-        consts::NBD_OPT_STARTTLS => Phase::Over(8),
-        consts::NBD_OPT_INFO => declined,
-        consts::NBD_OPT_GO => declined,
-        consts::NBD_OPT_STRUCTURED_REPLY => declined,
-        consts::NBD_OPT_EXTENDED_HEADERS => declined,
-        _ => Phase::Over(9),
-    }
-}
-
-fn passing(zeroes: bool, option: u32, len: usize, left: usize) -> Phase
-    ensures { (h : List ℕ) → view_of h result ≡ passing zeroes option len left }
-{
-    if left == 0 {
-        answered(zeroes, option, len)
-    } else {
-        Phase::Shaking(Handshake::Passing {
-            zeroes,
-            option,
-            len,
-            left,
-        })
-    }
-}
-
-// A name whose last byte has been taken.
-fn named(zeroes: bool, table: &[u8], fits: u32, text: Utf8) -> Phase
-    ensures { (h : List ℕ) → view_of h result ≡ named zeroes table.now (set_of fits) text }
-{
-    if text.whole() {
-        let found = lookup::lowest(fits);
-        match found {
-            Some(k) => {
-                let export = table::export_at(table, k);
-                let left = ranges::reply_length(zeroes);
-                Phase::Shaking(Handshake::Exporting {
-                    zeroes,
-                    export,
-                    left,
-                })
-            }
-            None => Phase::Over(6),
-        }
-    } else {
-        Phase::Over(5)
-    }
-}
-
-fn naming(zeroes: bool, table: &[u8], fits: u32, text: Utf8, at: usize, left: usize) -> Phase
-    ensures { (h : List ℕ) → view_of h result ≡ naming zeroes table.now (set_of fits) text at left }
-{
-    if left == 0 {
-        named(zeroes, table, fits, text)
-    } else {
-        Phase::Shaking(Handshake::Naming {
-            zeroes,
-            fits,
-            text,
-            at,
-            left,
-        })
-    }
 }
 
 // An option's type and length are there.
@@ -176,10 +198,22 @@ fn payload(zeroes: bool, table: &[u8], option: u32, len: usize) -> Phase
         return Phase::Over(3);
     }
     if option == consts::NBD_OPT_EXPORT_NAME {
-        let fits = lookup::started(table, len);
-        naming(zeroes, table, fits, Utf8::new(), 0, len)
+        let name = Naming {
+            zeroes,
+            fits: lookup::started(table, len),
+            text: Utf8::new(),
+            at: 0,
+            left: len,
+        };
+        name.phase(table)
     } else {
-        passing(zeroes, option, len, len)
+        let other = Passing {
+            zeroes,
+            option,
+            len,
+            left: len,
+        };
+        other.phase()
     }
 }
 
@@ -239,7 +273,7 @@ pub fn export_reply(export: Export) -> [u8; 134]
     bytes
 }
 
-// ---- one leaf for each phase
+// ---- one leaf for the phase that takes a head
 
 pub fn take_option(head: [u8; 28], zeroes: bool, have: usize, table: &[u8], input: &[u8]) -> Took
     requires { (have < 16) × (0 < length input.now) }
@@ -250,49 +284,6 @@ pub fn take_option(head: [u8; 28], zeroes: bool, have: usize, table: &[u8], inpu
     let phase = judge_option(zeroes, table, bytes, have + n);
     Took {
         state: Server { phase, head: bytes },
-        taken: n,
-    }
-}
-
-pub fn take_name(
-    head: [u8; 28],
-    zeroes: bool,
-    fits: u32,
-    text: Utf8,
-    at: usize,
-    left: usize,
-    table: &[u8],
-    input: &[u8],
-) -> Took
-    requires { (0 < left) × (at + left ≤ 100000) }
-    ensures { (m : List ℕ) → Absorbed table.now (Shaking (Naming zeroes (set_of fits) text at left)) m input.now result m }
-{
-    let n = copy::least(left, input.len());
-    let part = &input[..n];
-    let still = lookup::narrowed(fits, table, at, part);
-    let so_far = text.run(part);
-    let phase = naming(zeroes, table, still, so_far, at + n, left - n);
-    Took {
-        state: Server { phase, head },
-        taken: n,
-    }
-}
-
-pub fn pass(
-    head: [u8; 28],
-    zeroes: bool,
-    option: u32,
-    len: usize,
-    left: usize,
-    count: usize,
-) -> Took
-    requires { 0 < left }
-    ensures { (t m input : List ℕ) → length input ≡ count → Absorbed t (Shaking (Passing zeroes option len left)) m input result m }
-{
-    let n = copy::least(left, count);
-    let phase = passing(zeroes, option, len, left - n);
-    Took {
-        state: Server { phase, head },
         taken: n,
     }
 }

@@ -57,22 +57,15 @@ fn ranged_shaking(head: [u8; 28], p: Handshake) -> bool
         Handshake::Greeting { left } => (1..=18).contains(&left),
         Handshake::ClientFlags { have } => have < 4,
         Handshake::OptionHead { have, .. } => have < 16,
-        Handshake::Naming { at, left, .. } => 0 < left && within(at, left, 100000),
-        Handshake::Passing {
-            option,
-            len,
-            left,
-            ..
-        } => option != consts::NBD_OPT_EXPORT_NAME && (1..=len).contains(&left) && len <= 100000,
+        Handshake::Naming(n) => 0 < n.left && within(n.at, n.left, 100000),
+        Handshake::Passing(p) => p.option != consts::NBD_OPT_EXPORT_NAME
+            && (1..=p.len).contains(&p.left)
+            && p.len <= 100000,
         Handshake::Listing { left, .. } => (1..=51).contains(&left),
-        Handshake::Declining { option, left, .. } => unsupported(option)
-            && (1..=20).contains(&left),
+        Handshake::Declining(d) => unsupported(d.option) && (1..=20).contains(&d.left),
         Handshake::Aborting { left } => (1..=20).contains(&left),
-        Handshake::Exporting {
-            zeroes,
-            export,
-            left,
-        } => export.flags < 16 && (1..=reply_length(zeroes)).contains(&left),
+        Handshake::Exporting(x) => x.export.flags < 16
+            && (1..=reply_length(x.zeroes)).contains(&x.left),
     }
 }
 
@@ -117,16 +110,10 @@ fn ranged_serving(head: [u8; 28], e: Export, p: Transmission) -> bool
 {
     match p {
         Transmission::Header { have } => have < 28,
-        Transmission::Storing { off, left, .. } => !request::read_only(e) && part(e, off, left),
-        Transmission::Dropping { error, left, .. } => error == refused(e) && 0 < left,
-        Transmission::Replying {
-            error,
-            left,
-            off,
-            len,
-            ..
-        } => (1..=16).contains(&left) && behind(e, error, off, len),
-        Transmission::Sending { off, left } => part(e, off, left),
+        Transmission::Storing(s) => !request::read_only(e) && part(e, s.off, s.left),
+        Transmission::Dropping(d) => d.error == refused(e) && 0 < d.left,
+        Transmission::Replying(r) => (1..=16).contains(&r.left) && behind(e, r.error, r.off, r.len),
+        Transmission::Sending(s) => part(e, s.off, s.left),
     }
 }
 
@@ -197,7 +184,7 @@ fn window_fault_shaking(p: Handshake, n: usize) -> Result<(), Refusal>
     ensures refuses { OnErr result ((h : List ℕ) → 0 < window_fault_shaking n (handshake_of h p)) }
 {
     match p {
-        Handshake::Exporting { export, .. } => window_fault(export, n),
+        Handshake::Exporting(x) => window_fault(x.export, n),
         _ => Ok(()),
     }
 }

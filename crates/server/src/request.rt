@@ -81,17 +81,16 @@ fn owed_write(e: Export, r: Request) -> Answer
     }
 }
 
+#[tactic(auto, unfolding(crate::specs::Request::owed))]
 pub fn owed(e: Export, r: Request) -> Answer
     ensures { result ≡ owed e r }
 {
-    let t = r.typ;
-    match t {
+    match r.typ {
         consts::NBD_CMD_READ => owed_read(e, r),
         consts::NBD_CMD_WRITE => owed_write(e, r),
         consts::NBD_CMD_DISC => Answer::End(0),
         consts::NBD_CMD_FLUSH => Answer::Reply(0),
-        consts::NBD_CMD_TRIM => Answer::Reply(consts::NBD_ENOSYS),
-        consts::NBD_CMD_WRITE_ZEROES => Answer::Reply(consts::NBD_ENOSYS),
+        consts::NBD_CMD_TRIM | consts::NBD_CMD_WRITE_ZEROES => Answer::Reply(consts::NBD_ENOSYS),
         _ => Answer::End(11),
     }
 }

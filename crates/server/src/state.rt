@@ -3,86 +3,102 @@ use machine::ends;
 use wire::table::Export;
 use wire::utf8::Utf8;
 
-// `zeroes`: whether the reply to EXPORT_NAME ends in 124 zero bytes. `left`: how many bytes are still to be taken or given.
+// ---- the phases that hold more than two values. `zeroes`: whether the reply to EXPORT_NAME ends in 124 zero bytes. `left`: how many bytes are
+// still to be taken or given.
+
+// A name: the exports that fit it so far, its text so far, its next place.
+#[derive(Clone, Copy)]
+pub struct Naming {
+    pub zeroes: bool,
+    pub fits: u32,
+    pub text: Utf8,
+    pub at: usize,
+    pub left: usize,
+}
+
+// Another option's payload, of len bytes.
+#[derive(Clone, Copy)]
+pub struct Passing {
+    pub zeroes: bool,
+    pub option: u32,
+    pub len: usize,
+    pub left: usize,
+}
+
+// The reply that the option is not supported.
+#[derive(Clone, Copy)]
+pub struct Declining {
+    pub zeroes: bool,
+    pub option: u32,
+    pub left: usize,
+}
+
+// The reply to EXPORT_NAME.
+#[derive(Clone, Copy)]
+pub struct Exporting {
+    pub zeroes: bool,
+    pub export: Export,
+    pub left: usize,
+}
+
+// Payload for the window, from the place off on.
+#[derive(Clone, Copy)]
+pub struct Storing {
+    pub handle: u64,
+    pub off: usize,
+    pub left: usize,
+}
+
+// Payload that is refused, and the error to reply.
+#[derive(Clone, Copy)]
+pub struct Dropping {
+    pub error: u32,
+    pub handle: u64,
+    pub left: usize,
+}
+
+// A reply, and after it len bytes of the window from the place off on.
+#[derive(Clone, Copy)]
+pub struct Replying {
+    pub error: u32,
+    pub handle: u64,
+    pub left: usize,
+    pub off: usize,
+    pub len: usize,
+}
+
+// Bytes of the window, from the place off on.
+#[derive(Clone, Copy)]
+pub struct Sending {
+    pub off: usize,
+    pub left: usize,
+}
+
+// ---- all phases
+
 #[derive(Clone, Copy)]
 pub enum Handshake {
-    Greeting {
-        left: usize,
-    },
+    Greeting { left: usize },
     // so many bytes of the client's flags are in `head`
-    ClientFlags {
-        have: usize,
-    },
+    ClientFlags { have: usize },
     // so many bytes of an option's magic, type and length are in `head`
-    OptionHead {
-        zeroes: bool,
-        have: usize,
-    },
-    // a name: the exports that fit it so far, its text so far, its next place
-    Naming {
-        zeroes: bool,
-        fits: u32,
-        text: Utf8,
-        at: usize,
-        left: usize,
-    },
-    // another option's payload, of len bytes
-    Passing {
-        zeroes: bool,
-        option: u32,
-        len: usize,
-        left: usize,
-    },
-    Listing {
-        zeroes: bool,
-        left: usize,
-    },
-    Declining {
-        zeroes: bool,
-        option: u32,
-        left: usize,
-    },
-    Aborting {
-        left: usize,
-    },
-    Exporting {
-        zeroes: bool,
-        export: Export,
-        left: usize,
-    },
+    OptionHead { zeroes: bool, have: usize },
+    Naming(Naming),
+    Passing(Passing),
+    Listing { zeroes: bool, left: usize },
+    Declining(Declining),
+    Aborting { left: usize },
+    Exporting(Exporting),
 }
 
 #[derive(Clone, Copy)]
 pub enum Transmission {
     // so many bytes of a request are in `head`
-    Header {
-        have: usize,
-    },
-    // payload for the window, from the place off on
-    Storing {
-        handle: u64,
-        off: usize,
-        left: usize,
-    },
-    // payload that is refused, and the error to reply
-    Dropping {
-        error: u32,
-        handle: u64,
-        left: usize,
-    },
-    // a reply, and after it len bytes of the window from the place off on
-    Replying {
-        error: u32,
-        handle: u64,
-        left: usize,
-        off: usize,
-        len: usize,
-    },
-    // bytes of the window, from the place off on
-    Sending {
-        off: usize,
-        left: usize,
-    },
+    Header { have: usize },
+    Storing(Storing),
+    Dropping(Dropping),
+    Replying(Replying),
+    Sending(Sending),
 }
 
 #[derive(Clone, Copy)]

@@ -7,7 +7,6 @@ ghost use Rattle.server.specs.Contract.{outcome_of};
 
 use crate::state::{Gave, Outcome, Phase, Server, Took};
 use crate::{handshake, ranges, transmission};
-use machine::copy;
 use machine::ends::End;
 
 impl End for Server {
@@ -24,21 +23,17 @@ impl End for Server {
         if input.len() == 0 {
             return Took::none(self);
         }
-        let head = self.head;
-        let p = self.phase;
-        match p {
-            Phase::Shaking(h) => handshake::absorb(head, h, table, input),
-            Phase::Serving(e, t) => transmission::absorb(head, e, t, input, image),
+        match self.phase {
+            Phase::Shaking(h) => handshake::absorb(self.head, h, table, input),
+            Phase::Serving(e, t) => transmission::absorb(self.head, e, t, input, image),
             Phase::Over(_) => Took::none(self),
         }
     }
 
     fn emit(self, room: &mut [u8], _table: &[u8], image: &[u8]) -> Gave {
-        let head = self.head;
-        let p = self.phase;
-        match p {
-            Phase::Shaking(h) => handshake::emit(head, h, room),
-            Phase::Serving(e, t) => transmission::emit(head, e, t, room, image),
+        match self.phase {
+            Phase::Shaking(h) => handshake::emit(self.head, h, room),
+            Phase::Serving(e, t) => transmission::emit(self.head, e, t, room, image),
             Phase::Over(_) => Gave::none(self),
         }
     }
@@ -50,11 +45,9 @@ impl End for Server {
 pub fn outcome_of(s: Server) -> Outcome
     ensures { result ≡ outcome_of (view s) }
 {
-    let p = s.phase;
-    match p {
-        Phase::Shaking(_) => Outcome::GoingOn,
-        Phase::Serving(_, _) => Outcome::GoingOn,
+    match s.phase {
         Phase::Over(n) => Outcome::Ended(n),
+        _ => Outcome::GoingOn,
     }
 }
 
@@ -63,10 +56,8 @@ pub fn canonical(s: Server) -> Server
     requires { used s.phase ≤ 28 }
     ensures { result ≡ code (view s) }
 {
-    let phase = s.phase;
-    let k = ranges::used(phase);
-    let old = s.head;
+    let k = ranges::used(s.phase);
     let mut head = [0u8; 28];
-    copy::copy_part(&old, 0, &mut head, 0, k);
-    Server { phase, head }
+    head[..k].copy_from_slice(&s.head[..k]);
+    Server { head, ..s }
 }

@@ -3,8 +3,6 @@ ghost use Rattle.std.specs.Prelude.{◌≡◌, true, List, ℕ, ◌+◌, ◌-◌
 ghost use Rattle.wire.specs.Layouts.{simple_reply};
 ghost use Rattle.server.specs.Session.{
   Header,
-  Dropping,
-  Replying,
   Serving,
   sending,
   replying,
@@ -20,83 +18,181 @@ ghost use Rattle.server.specs.Inner.{request_until, Stored, Sent, Absorbed, Emit
 
 use crate::request;
 use crate::request::{Answer, Request};
-use crate::state::{Gave, Phase, Server, Took, Transmission};
-use machine::{copy, parts};
+use crate::state::{Dropping, Gave, Phase, Replying, Sending, Server, Storing, Took, Transmission};
+use machine::parts;
 use wire::table::Export;
 use wire::{consts, fields};
 
-// ---- the phases that follow where nothing may be left
+// ---- bytes of the window
 
-fn sending(e: Export, off: usize, left: usize) -> Phase
-    ensures { (h : List ℕ) → view_of h result ≡ sending e off left }
-{
-    if left == 0 {
-        Phase::Serving(e, Transmission::Header { have: 0 })
-    } else {
-        Phase::Serving(e, Transmission::Sending { off, left })
+impl Sending {
+    fn phase(self, e: Export) -> Phase
+        ensures { (h : List ℕ) → view_of h result ≡ sending e self.off self.left }
+    {
+        if self.left == 0 {
+            Phase::Serving(e, Transmission::Header { have: 0 })
+        } else {
+            Phase::Serving(e, Transmission::Sending(self))
+        }
+    }
+
+    fn give(self, head: [u8; 28], e: Export, window: &[u8], room: &mut [u8]) -> Gave
+        requires { (0 < self.left) × (self.off + self.left ≤ length window.now) }
+        ensures { Sent e self.off self.left window.now room.old result.given (view result.state) room.new }
+    {
+        let n = self.left.min(room.len());
+        let off = self.off + n;
+        room[..n].copy_from_slice(&window[self.off..off]);
+        let left = self.left - n;
+        let phase = Sending { off, left }.phase(e);
+        Gave {
+            state: Server { phase, head },
+            given: n,
+        }
     }
 }
 
-fn replying(e: Export, error: u32, handle: u64, left: usize, off: usize, len: usize) -> Phase
-    ensures { (h : List ℕ) → view_of h result ≡ replying e error handle left off len }
+// ---- a reply
+
+fn simple_reply(error: u32, handle: u64) -> [u8; 16]
+    ensures { result ≡ simple_reply error handle }
 {
-    if left == 0 {
-        sending(e, off, len)
-    } else {
-        Phase::Serving(
-            e,
-            Transmission::Replying {
-                error,
-                handle,
-                left,
-                off,
-                len,
-            },
-        )
+    let mut bytes = [0u8; 16];
+    fields::write_u32(&mut bytes, 0, consts::NBD_REPLY_MAGIC);
+    fields::write_u32(&mut bytes, 4, error);
+    fields::write_u64(&mut bytes, 8, handle);
+    bytes
+}
+
+impl Replying {
+    // A reply with no data.
+    fn new(error: u32, handle: u64) -> Replying
+        ensures { result ≡ record { error = error; handle = handle; left = 16; off = 0; len = 0 } }
+    {
+        Replying {
+            error,
+            handle,
+            left: 16,
+            off: 0,
+            len: 0,
+        }
+    }
+
+    fn phase(self, e: Export) -> Phase
+        ensures { (h : List ℕ) → view_of h result ≡ replying e self.error self.handle self.left self.off self.len }
+    {
+        if self.left == 0 {
+            let data = Sending {
+                off: self.off,
+                left: self.len,
+            };
+            data.phase(e)
+        } else {
+            Phase::Serving(e, Transmission::Replying(self))
+        }
+    }
+
+    fn give(self, head: [u8; 28], e: Export, room: &mut [u8]) -> Gave
+        requires { (0 < self.left) × (self.left ≤ 16) }
+        ensures { (t m : List ℕ) → Emitted t (Serving e (transmission_of head (Transmission.Replying self))) m room.old result room.new }
+    {
+        let bytes = simple_reply(self.error, self.handle);
+        let n = parts::give(&bytes, self.left, room);
+        let left = self.left - n;
+        let phase = Replying { left, ..self }.phase(e);
+        Gave {
+            state: Server { phase, head },
+            given: n,
+        }
     }
 }
 
-fn storing(e: Export, handle: u64, off: usize, left: usize) -> Phase
-    ensures { (h : List ℕ) → view_of h result ≡ storing e handle off left }
-{
-    if left == 0 {
-        replying(e, 0, handle, 16, 0, 0)
-    } else {
-        Phase::Serving(e, Transmission::Storing { handle, off, left })
+// ---- a payload
+
+impl Storing {
+    fn phase(self, e: Export) -> Phase
+        ensures { (h : List ℕ) → view_of h result ≡ storing e self.handle self.off self.left }
+    {
+        if self.left == 0 {
+            Replying::new(0, self.handle).phase(e)
+        } else {
+            Phase::Serving(e, Transmission::Storing(self))
+        }
+    }
+
+    // Takes of the input as many bytes as are left.
+    fn take(self, head: [u8; 28], e: Export, input: &[u8], window: &mut [u8]) -> Took
+        requires { (0 < self.left) × (self.off + self.left ≤ length window.old) }
+        ensures { Stored e self.handle self.off self.left input.now window.old result.taken (view result.state) window.new }
+    {
+        let n = self.left.min(input.len());
+        let off = self.off + n;
+        window[self.off..off].copy_from_slice(&input[..n]);
+        let left = self.left - n;
+        let phase = Storing { off, left, ..self }.phase(e);
+        Took {
+            state: Server { phase, head },
+            taken: n,
+        }
     }
 }
 
-fn dropping(e: Export, error: u32, handle: u64, left: usize) -> Phase
-    ensures { (h : List ℕ) → view_of h result ≡ dropping e error handle left }
-{
-    if left == 0 {
-        replying(e, error, handle, 16, 0, 0)
-    } else {
-        Phase::Serving(
-            e,
-            Transmission::Dropping {
-                error,
-                handle,
-                left,
-            },
-        )
+impl Dropping {
+    fn phase(self, e: Export) -> Phase
+        ensures { (h : List ℕ) → view_of h result ≡ dropping e self.error self.handle self.left }
+    {
+        if self.left == 0 {
+            Replying::new(self.error, self.handle).phase(e)
+        } else {
+            Phase::Serving(e, Transmission::Dropping(self))
+        }
+    }
+
+    // Takes of `count` bytes as many as are left.
+    fn take(self, head: [u8; 28], e: Export, count: usize) -> Took
+        requires { 0 < self.left }
+        ensures { (t m input : List ℕ) → length input ≡ count → Absorbed t (Serving e (transmission_of head (Transmission.Dropping self))) m input result m }
+    {
+        let n = self.left.min(count);
+        let left = self.left - n;
+        let phase = Dropping { left, ..self }.phase(e);
+        Took {
+            state: Server { phase, head },
+            taken: n,
+        }
     }
 }
 
-// ---- what is judged
+// ---- a request
 
 // What a request that is owed o sets off.
 fn begun(e: Export, r: Request, o: Answer) -> Phase
     ensures { (h : List ℕ) → view_of h result ≡ begun e r o }
 {
+    let handle = r.handle;
     let off = r.offset as usize;
     let len = r.len as usize;
     match o {
         Answer::Silence => Phase::Serving(e, Transmission::Header { have: 0 }),
-        Answer::Reply(error) => replying(e, error, r.handle, 16, 0, 0),
-        Answer::Data => replying(e, 0, r.handle, 16, off, len),
-        Answer::Store => storing(e, r.handle, off, len),
-        Answer::Swallow(error) => dropping(e, error, r.handle, len),
+        Answer::Reply(error) => Replying::new(error, handle).phase(e),
+        Answer::Data => Replying {
+            off,
+            len,
+            ..Replying::new(0, handle)
+        }
+        .phase(e),
+        Answer::Store => Storing {
+            handle,
+            off,
+            left: len,
+        }
+        .phase(e),
+        Answer::Swallow(error) => Dropping {
+            error,
+            handle,
+            left: len,
+        }
+        .phase(e),
         Answer::End(n) => Phase::Over(n),
     }
 }
@@ -127,20 +223,6 @@ fn requested(e: Export, head: [u8; 28], k: usize) -> Phase
     begun(e, r, o)
 }
 
-// ---- what is sent
-
-fn simple_reply(error: u32, handle: u64) -> [u8; 16]
-    ensures { result ≡ simple_reply error handle }
-{
-    let mut bytes = [0u8; 16];
-    fields::write_u32(&mut bytes, 0, consts::NBD_REPLY_MAGIC);
-    fields::write_u32(&mut bytes, 4, error);
-    fields::write_u64(&mut bytes, 8, handle);
-    bytes
-}
-
-// ---- one leaf for each phase
-
 fn take_header(head: [u8; 28], e: Export, have: usize, input: &[u8]) -> Took
     requires { (have < 28) × (0 < length input.now) }
     ensures { (t m : List ℕ) → Absorbed t (Serving e (Header (take have head))) m input.now result m }
@@ -154,88 +236,11 @@ fn take_header(head: [u8; 28], e: Export, have: usize, input: &[u8]) -> Took
     }
 }
 
-// Payload into the window.
-fn store(
-    head: [u8; 28],
-    e: Export,
-    handle: u64,
-    off: usize,
-    left: usize,
-    input: &[u8],
-    window: &mut [u8],
-) -> Took
-    requires { (0 < left) × (off + left ≤ length window.old) }
-    ensures { Stored e handle off left input.now window.old result.taken (view result.state) window.new }
-{
-    let n = copy::least(left, input.len());
-    copy::copy_part(input, 0, window, off, n);
-    let phase = storing(e, handle, off + n, left - n);
-    Took {
-        state: Server { phase, head },
-        taken: n,
-    }
-}
-
-// Payload that is refused.
-fn discard(head: [u8; 28], e: Export, error: u32, handle: u64, left: usize, count: usize) -> Took
-    requires { 0 < left }
-    ensures { (t m input : List ℕ) → length input ≡ count → Absorbed t (Serving e (Dropping error handle left)) m input result m }
-{
-    let n = copy::least(left, count);
-    let phase = dropping(e, error, handle, left - n);
-    Took {
-        state: Server { phase, head },
-        taken: n,
-    }
-}
-
-fn reply(
-    head: [u8; 28],
-    e: Export,
-    error: u32,
-    handle: u64,
-    left: usize,
-    off: usize,
-    len: usize,
-    room: &mut [u8],
-) -> Gave
-    requires { (0 < left) × (left ≤ 16) }
-    ensures { (t m : List ℕ) → Emitted t (Serving e (Replying error handle left off len)) m room.old result room.new }
-{
-    let bytes = simple_reply(error, handle);
-    let n = parts::give(&bytes, left, room);
-    let phase = replying(e, error, handle, left - n, off, len);
-    Gave {
-        state: Server { phase, head },
-        given: n,
-    }
-}
-
-// Bytes of the window.
-fn send(head: [u8; 28], e: Export, off: usize, left: usize, window: &[u8], room: &mut [u8]) -> Gave
-    requires { (0 < left) × (off + left ≤ length window.now) }
-    ensures { Sent e off left window.now room.old result.given (view result.state) room.new }
-{
-    let n = copy::least(left, room.len());
-    copy::copy_part(window, off, room, 0, n);
-    let phase = sending(e, off + n, left - n);
-    Gave {
-        state: Server { phase, head },
-        given: n,
-    }
-}
-
 // Whether output is owed.
 pub fn owes(p: Transmission) -> bool
     ensures { (h : List ℕ) (e : Export) → result ≡ owes_output (Serving e (transmission_of h p)) }
 {
-    match p {
-        Transmission::Header { .. } => false,
-        Transmission::Storing { .. } => false,
-        Transmission::Dropping { .. } => false,
-        Transmission::Replying { .. } => true,
-        Transmission::Sending { .. } => true,
-    }
+    matches!(p, Transmission::Replying(_) | Transmission::Sending(_))
 }
 
 // ---- the phases put together
@@ -247,21 +252,13 @@ pub fn absorb(head: [u8; 28], e: Export, p: Transmission, input: &[u8], image: &
 {
     match p {
         Transmission::Header { have } => take_header(head, e, have, input),
-        Transmission::Storing { handle, off, left } => {
+        Transmission::Storing(payload) => {
             let a = e.start as usize;
             let b = a + e.size as usize;
-            store(head, e, handle, off, left, input, &mut image[a..b])
+            payload.take(head, e, input, &mut image[a..b])
         }
-        Transmission::Dropping {
-            error,
-            handle,
-            left,
-        } => discard(head, e, error, handle, left, input.len()),
-        Transmission::Replying { .. } => Took::none(Server {
-            phase: Phase::Serving(e, p),
-            head,
-        }),
-        Transmission::Sending { .. } => Took::none(Server {
+        Transmission::Dropping(payload) => payload.take(head, e, input.len()),
+        _ => Took::none(Server {
             phase: Phase::Serving(e, p),
             head,
         }),
@@ -274,27 +271,13 @@ pub fn emit(head: [u8; 28], e: Export, p: Transmission, room: &mut [u8], image: 
     ensures { (t : List ℕ) → Emitted t (Serving e (transmission_of head p)) image.now room.old result room.new }
 {
     match p {
-        Transmission::Replying {
-            error,
-            handle,
-            left,
-            off,
-            len,
-        } => reply(head, e, error, handle, left, off, len, room),
-        Transmission::Sending { off, left } => {
+        Transmission::Replying(reply) => reply.give(head, e, room),
+        Transmission::Sending(data) => {
             let a = e.start as usize;
             let b = a + e.size as usize;
-            send(head, e, off, left, &image[a..b], room)
+            data.give(head, e, &image[a..b], room)
         }
-        Transmission::Header { .. } => Gave::none(Server {
-            phase: Phase::Serving(e, p),
-            head,
-        }),
-        Transmission::Storing { .. } => Gave::none(Server {
-            phase: Phase::Serving(e, p),
-            head,
-        }),
-        Transmission::Dropping { .. } => Gave::none(Server {
+        _ => Gave::none(Server {
             phase: Phase::Serving(e, p),
             head,
         }),

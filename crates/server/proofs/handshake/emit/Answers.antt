@@ -1,16 +1,7 @@
 -- What the phase owes is computed anew, and given from where the last step left off.
-use mathlib.Core.Path.{sym}
-use mathlib.Core.List.{[]}
-use lib.Seq.{length-take-le}
 use Rattle.server.specs.View.{handshake_of}
-use Rattle.server.proofs.Owing.{owed_fits, owed_within, owed_emits}
+use Rattle.server.proofs.Owing.{owed_within, owed_emits}
 use Rattle.server.proofs.handshake.emit.Goals as goal
-
-pub slice_bounds-bytes-end : goal.slice_bounds-bytes-end
-slice_bounds-bytes-end c = owed_fits (c.owed-owed.ensures [])
-
-pub slice_bounds-give-end : goal.slice_bounds-give-end
-slice_bounds-give-end c = sym (length-take-le _ _ (owed_fits (c.owed-owed.ensures [])))
 
 pub give-n-requires : goal.give-n-requires
 give-n-requires c =

@@ -5,4 +5,4 @@ use Rattle.server.proofs.handshake.greeting.Goals as goal
 
 pub returns : goal.returns
 unfolding be greeting
-returns c = rw (c.write_u16.ensures, c.copy_part-2.ensures, c.copy_part.ensures)
+returns c = rw (c.write_u16.ensures, c.copy_from_slice-2.ensures.after, c.copy_from_slice.ensures.after)

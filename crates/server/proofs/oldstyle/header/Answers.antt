@@ -5,4 +5,4 @@ use Rattle.server.proofs.oldstyle.header.Goals as goal
 
 pub returns : goal.returns
 unfolding be oldstyle_header
-returns c = rw (c.write_u32.ensures, c.write_u64.ensures, c.copy_part-2.ensures, c.copy_part.ensures)
+returns c = rw (c.write_u32.ensures, c.write_u64.ensures, c.copy_from_slice-2.ensures.after, c.copy_from_slice.ensures.after)

@@ -1,14 +1,17 @@
--- The header is copied over the front of a room that has space for it.
-use mathlib.Core.Path.{◌∙◌}
-use borrow.Author.Tests.{lt-ltb, le-ltb}
-use Rattle.server.proofs.Session.{old_pasted}
+-- The header is as long as the front of a room that has space for it.
+use mathlib.Core.Path.{◌≡◌, sym, ◌∙◌}
+use borrow.Author.Rules.{rules}
+use borrow.Author.Tests.{le-ltb}
+use lib.ListN.{length}
+use lib.Seq.{length-take-le}
 use Rattle.server.proofs.oldstyle.oldstyle_header.Goals as goal
 
-pub returns-then-room-lt152 : goal.returns-then-room-lt152
-returns-then-room-lt152 c = record { number = rw (lt-ltb _ _ c.if-room-lt152.true); written = rw (lt-ltb _ _ c.if-room-lt152.true) }
+pub copy_from_slice-requires : goal.copy_from_slice-requires
+copy_from_slice-requires c =
+    let l : length c.header-bytes.result ≡ 152 = search rules in
+    length-take-le 152 c.args.room.now c.if-room-lt152.false ∙ sym l
 
 pub returns : goal.returns
-returns c = record {
-  number = rw (le-ltb _ _ c.if-room-lt152.false);
-  written = rw (le-ltb _ _ c.if-room-lt152.false) (c.copy_part.ensures ∙ old_pasted _ _ c.args.room.now c.header-bytes.ensures);
-}
+returns c =
+    let enough = le-ltb _ _ c.if-room-lt152.false in
+    record { number = rw enough; written = rw (enough, c.copy_from_slice.ensures.after, c.header-bytes.ensures) }

@@ -10,8 +10,8 @@ returns-then-len-gt100000 c = λ _. rw (lt-leb _ _ c.if-len-gt100000.true)
 
 pub returns-then-option-eq-NBD_OPT_EXPORT_NAME : goal.returns-then-option-eq-NBD_OPT_EXPORT_NAME
 unfolding payload
-returns-then-option-eq-NBD_OPT_EXPORT_NAME c = λ h. c.naming.ensures h ∙ rw (c.new.ensures, c.started-fits.ensures, le-leb _ _ c.if-len-gt100000.false, c.if-option-eq-NBD_OPT_EXPORT_NAME.true)
+returns-then-option-eq-NBD_OPT_EXPORT_NAME c = λ h. c.phase.ensures h ∙ rw (c.new.ensures, c.started.ensures, le-leb _ _ c.if-len-gt100000.false, c.if-option-eq-NBD_OPT_EXPORT_NAME.true)
 
 pub returns-else-option-eq-NBD_OPT_EXPORT_NAME : goal.returns-else-option-eq-NBD_OPT_EXPORT_NAME
 unfolding payload
-returns-else-option-eq-NBD_OPT_EXPORT_NAME c = λ h. c.passing.ensures h ∙ rw (le-leb _ _ c.if-len-gt100000.false, ne_eqb _ _ c.if-option-eq-NBD_OPT_EXPORT_NAME.false)
+returns-else-option-eq-NBD_OPT_EXPORT_NAME c = λ h. c.phase-else-option-eq-NBD_OPT_EXPORT_NAME.ensures h ∙ rw (le-leb _ _ c.if-len-gt100000.false, ne_eqb _ _ c.if-option-eq-NBD_OPT_EXPORT_NAME.false)
