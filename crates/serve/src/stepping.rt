@@ -3,7 +3,6 @@ ghost use Rattle.std.specs.Prelude.{◌≡◌};
 ghost use Rattle.server.specs.View.{view, transmission_of};
 ghost use Rattle.serve.specs.Stepping.{offered, offered_serving, LiesIn, changed, changed_serving, Takes, Gives};
 
-use machine::copy;
 use server::Stepped;
 use server::state::{Phase, Server, Transmission};
 use wire::table::Export;
@@ -26,17 +25,9 @@ fn offered_serving(head: [u8; 28], e: Export, p: Transmission, n: usize) -> usiz
     ensures { result ≡ offered_serving (transmission_of head p) n }
 {
     match p {
-        Transmission::Header { have } => {
-            if have < 28 {
-                copy::least(28 - have, n)
-            } else {
-                0
-            }
-        }
-        Transmission::Storing { left, .. } => copy::least(left, n),
-        Transmission::Dropping { .. } => n,
-        Transmission::Replying { .. } => n,
-        Transmission::Sending { .. } => n,
+        Transmission::Header { have } => 28usize.saturating_sub(have).min(n),
+        Transmission::Storing(payload) => payload.left.min(n),
+        _ => n,
     }
 }
 
@@ -57,16 +48,12 @@ fn changed_serving(head: [u8; 28], e: Export, p: Transmission, taken: usize, ima
     requires { LiesIn image (changed_serving e (transmission_of head p) taken) }
     ensures { result ≡ changed_serving e (transmission_of head p) taken }
 {
-    let none = Part { from: 0, len: 0 };
     match p {
-        Transmission::Header { .. } => none,
-        Transmission::Storing { off, .. } => Part {
-            from: e.start as usize + off,
+        Transmission::Storing(payload) => Part {
+            from: e.start as usize + payload.off,
             len: taken,
         },
-        Transmission::Dropping { .. } => none,
-        Transmission::Replying { .. } => none,
-        Transmission::Sending { .. } => none,
+        _ => Part { from: 0, len: 0 },
     }
 }
 

@@ -5,13 +5,13 @@
 --   copied       the bytes in use, copied over zeros, are that struct
 --   used_fits    a state within its ranges uses no more than the array has
 --   in_range_lem     a state's struct is within its ranges where the state is
-use Prim.Native.Nat.{ℕ, ◌+◌, ◌-◌, ◌^◌, ◌≤◌, ◌<◌}
+use Prim.Native.Nat.{ℕ, ◌-◌, ◌^◌, ◌≤◌, ◌<◌}
 use mathlib.Core.Path.{◌≡◌, refl, ap, ◌∙◌}
 use mathlib.Core.Bool.{Bool, true}
 use mathlib.Core.List.{List, ◌++◌}
 use native.Mathlib.Omega.{arith}
 use lib.ListN.{length, take, drop, replicate}
-use lib.Seq.{length-take-le, paste, take-append_seam, drop-append_seam}
+use lib.Seq.{length-take-le, take-append_seam, drop-append_seam}
 use Rattle.machine.proofs.Lists.{drop_replicate}
 use Rattle.wire.specs.declared.table.Export.{Export}
 use Rattle.wire.proofs.Tests.{both_left, both_right}

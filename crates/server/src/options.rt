@@ -53,7 +53,7 @@ pub fn aborting(left: usize) -> Phase
 }
 
 impl Declining {
-    pub fn phase(self) -> Phase
+    pub(crate) fn phase(self) -> Phase
         ensures { (h : List ℕ) → view_of h result ≡ declining self.zeroes self.option self.left }
     {
         if self.left == 0 {
@@ -68,7 +68,7 @@ impl Declining {
 }
 
 impl Exporting {
-    pub fn phase(self) -> Phase
+    pub(crate) fn phase(self) -> Phase
         ensures { (h : List ℕ) → view_of h result ≡ exporting self.zeroes self.export self.left }
     {
         if self.left == 0 {
@@ -115,7 +115,7 @@ impl Passing {
     }
 
     // Takes of `count` bytes as many as are left.
-    pub fn take(self, head: [u8; 28], count: usize) -> Took
+    pub(crate) fn take(self, head: [u8; 28], count: usize) -> Took
         requires { 0 < self.left }
         ensures { (t m input : List ℕ) → length input ≡ count → Absorbed t (Shaking (handshake_of head (Handshake.Passing self))) m input result m }
     {
@@ -160,7 +160,7 @@ impl Naming {
     }
 
     // Takes of the input as many bytes as are left.
-    pub fn take(self, head: [u8; 28], table: &[u8], input: &[u8]) -> Took
+    pub(crate) fn take(self, head: [u8; 28], table: &[u8], input: &[u8]) -> Took
         requires { (0 < self.left) × (self.at + self.left ≤ 100000) }
         ensures { (m : List ℕ) → Absorbed table.now (Shaking (handshake_of head (Handshake.Naming self))) m input.now result m }
     {

@@ -8,10 +8,10 @@ use lib.Dec.{ltb}
 use native.Mathlib.Omega.{arith}
 use lib.ListN.{length}
 use Rattle.server.specs.Contract.{Heads}
-use Rattle.server.specs.declared.oldstyle.HeaderAnswer.{HeaderAnswer}
-use Rattle.server.specs.declared.oldstyle.HeaderAnswer.TheVariants.{Written}
+use Rattle.std.specs.Prelude.{Result, Ok, ⊤}
+use Rattle.server.specs.declared.oldstyle.NoRoom.{NoRoom}
 
-module _ {room : List ℕ} {size flags : ℕ} {r : HeaderAnswer} {room' : List ℕ} (heads : Heads room size flags r room') (w : r ≡ Written) where
+module _ {room : List ℕ} {size flags : ℕ} {r : Result ⊤ NoRoom} {u : ⊤} {room' : List ℕ} (heads : Heads room size flags r room') (w : r ≡ Ok u) where
   by_test : (t : Bool) → ltb (length room) 152 ≡ t → 152 ≤ length room
   by_test false e = ltb-false _ _ e
   by_test true e =

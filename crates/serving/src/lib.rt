@@ -12,7 +12,6 @@ use lines::buffers::{Buffers, Driven, Moved};
 use lines::places::Lent;
 use lines::{answer, buffers};
 use server::oldstyle;
-use server::oldstyle::HeaderAnswer;
 use server::state::{Outcome, Server};
 
 // The server that a script drives.
@@ -75,12 +74,12 @@ fn header(size: u64, flags: u32, room: &mut [u8]) -> Moved
     ensures { result.given ≤ length room.old }
 {
     match oldstyle::oldstyle_header(room, size, flags) {
-        HeaderAnswer::Written => Moved {
+        Ok(()) => Moved {
             answer: Answer::On,
             taken: 0,
             given: 152,
         },
-        HeaderAnswer::NoRoom => Moved {
+        Err(_) => Moved {
             answer: Answer::No(13),
             taken: 0,
             given: 0,
