@@ -14,6 +14,7 @@ use host::words::{fail, say, tell};
 use host::{args, files, text};
 use std::io::Result;
 use talk::Talk;
+use words::Told;
 
 // What one call moves at most, and a byte more.
 const BUFFER: usize = 4194305;
@@ -52,8 +53,7 @@ fn connect(rt: &HostRuntime, name: &mut [u8], script: &[u8], buffer: &mut [u8]) 
     let mut talk = Talk::new(rt.stdin());
     let c = talk.client.handshake(name);
     talk.drive(c, name);
-    say(b"ask: ");
-    words::say_outcome(talk.outcome);
+    tell(format_args!("ask: {}\n", Told(talk.outcome)));
     obey_all(rt, &mut talk, script, buffer);
 }
 

@@ -3,17 +3,17 @@ ghost use Rattle.std.specs.Io.{ReadsAtMost};
 
 use crate::orders::Order;
 use crate::talk::Talk;
-use crate::words;
+use crate::words::Told;
 use client::Called;
 use client::state::{Outcome, Value};
 use host::files;
-use host::words::{fail, say};
+use host::words::{fail, say, tell};
 use std::io::{Result, Write};
 
 // Makes a call, and says how that went.
 fn call(talk: &mut Talk, c: Called, lent: &mut [u8]) {
     talk.drive(c, lent);
-    words::say_outcome(talk.outcome);
+    tell(format_args!("{}\n", Told(talk.outcome)));
 }
 
 // A call that lends no buffer.
