@@ -10,7 +10,7 @@ pub fn gather(head: &mut [u8], have: usize, to: usize, input: &[u8]) -> usize
     requires { (have ≤ to) × (to ≤ length head.old) }
     ensures { Gathered head.old have to input.now head.new result }
 {
-    let n = copy::least(to - have, input.len());
+    let n = (to - have).min(input.len());
     copy::copy_part(input, 0, head, have, n);
     n
 }
@@ -20,7 +20,7 @@ pub fn give(bytes: &[u8], left: usize, room: &mut [u8]) -> usize
     requires { left ≤ length bytes.now }
     ensures { Given bytes.now left room.old result room.new }
 {
-    let n = copy::least(left, room.len());
+    let n = left.min(room.len());
     let from = bytes.len() - left;
     copy::copy_part(bytes, from, room, 0, n);
     n
@@ -30,12 +30,6 @@ pub fn give(bytes: &[u8], left: usize, room: &mut [u8]) -> usize
 pub fn blank(l: &[u8], from: usize) -> bool
     ensures { result ≡ blank (drop from l.now) }
 {
-    let mut i = from;
-    while i < l.len() {
-        if l[i] != 0 {
-            return false;
-        }
-        i += 1;
-    }
-    true
+    let rest = &l[from.min(l.len())..];
+    rest.iter().all(|b| *b == 0)
 }

@@ -5,24 +5,24 @@ ghost use Rattle.machine.specs.Choice.{both, either, between};
 pub fn both(a: bool, b: bool) -> bool
     ensures { result ≡ both a b }
 {
-    if a { b } else { false }
+    a && b
 }
 
 pub fn either(a: bool, b: bool) -> bool
     ensures { result ≡ either a b }
 {
-    if a { true } else { b }
+    a || b
 }
 
 pub fn between(lo: usize, hi: usize, n: usize) -> bool
     ensures { result ≡ between lo hi n }
 {
-    both(lo <= n, n <= hi)
+    (lo..=hi).contains(&n)
 }
 
 // Whether a + b is at most n, as whole numbers.
 pub fn within(a: usize, b: usize, n: usize) -> bool
     ensures { result ≡ leb (a + b) n }
 {
-    if b <= n { a <= n - b } else { false }
+    b <= n && a <= n - b
 }

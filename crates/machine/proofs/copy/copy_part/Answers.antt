@@ -19,4 +19,4 @@ put-paste d s at from n ys e =
 pub returns : goal.returns
 returns c =
     let a = c.args in
-    put-paste a.dst.now a.src.now a.at a.from a.n _ c.copy.ensures
+    put-paste a.dst.now a.src.now a.at a.from a.n _ c.copy_from_slice.ensures.after

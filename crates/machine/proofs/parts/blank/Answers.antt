@@ -1,15 +1,15 @@
-use mathlib.Core.Path.{refl}
-use Rattle.machine.proofs.Zeros.{blank_next, blank_not, blank_end}
+use mathlib.Core.Path.{ap, ◌∙◌}
+use borrow.Author.Rules.{rules}
+use borrow.Author.Tests.{tests}
+use lib.Dec.{eqb}
+use lib.ListN.{drop}
+use Rattle.std.specs.List.{list_all}
+use Rattle.std.proofs.lemmas.Iterator.{YieldsList-from_slice}
+use Rattle.std.proofs.lemmas.Iterator.Search.{all_from_yields_List}
+use Rattle.machine.proofs.Zeros.{blank_all, rest_from}
 use Rattle.machine.proofs.parts.blank.Goals as goal
 
-pub loop-i-init : goal.loop-i-init
-loop-i-init c = refl
-
-pub returns-then-l-i-ne0 : goal.returns-then-l-i-ne0
-returns-then-l-i-ne0 c = let a = c.args in blank_not a.l.now a.from _ c.loop-i.invariant c.loop-i-test.true c.if-l-i-ne0.true
-
-pub loop-i-preserved : goal.loop-i-preserved
-loop-i-preserved c = let a = c.args in blank_next a.l.now a.from _ c.loop-i.invariant c.loop-i-test.true c.if-l-i-ne0.false
-
 pub returns : goal.returns
-returns c = let a = c.args in blank_end a.l.now a.from _ c.loop-i.invariant c.loop-i-test.false
+returns c =
+    let l = c.args.l.now in
+    all_from_yields_List (λ b. eqb b 0) _ _ _ c.all.ensures.ran (YieldsList-from_slice _ c.iter.ensures.rest) (λ x b q k. search (rules, tests)) ∙ ap (list_all (λ b. eqb b 0)) (rest_from l c.args.from _ c.min.ensures) ∙ blank_all (drop c.args.from l)

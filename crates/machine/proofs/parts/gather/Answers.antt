@@ -7,6 +7,6 @@ pub returns : goal.returns
 returns c =
     let a = c.args in
     record {
-      least = c.least-n.ensures;
-      bytes = rw c.copy_part.ensures (take-paste a.head.now a.have a.input.now c.least-n.result (omega arith) (omega (arith, c.least-n.ensures)));
+      least = c.min-n.ensures;
+      bytes = rw c.copy_part.ensures (take-paste a.head.now a.have a.input.now c.min-n.result (omega arith) (omega (arith, c.min-n.ensures)));
     }
