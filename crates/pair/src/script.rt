@@ -78,7 +78,7 @@ fn spoken(i: u8) -> Word
 pub fn fill(i: u8, buffer: &mut [u8])
     requires { length buffer.old ≡ 40 }
 {
-    copy::copy(b"........................................", buffer);
+    buffer.copy_from_slice(b"........................................");
     let w = spoken(i);
     copy::copy_part(
         b"labels  WARFARINMORPHINECODEINE ",
