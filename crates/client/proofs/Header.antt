@@ -4,7 +4,7 @@
 --   magic_.., style_.., terms_.., reply_whole         all are there
 --   take_part      a part of the first bytes is a part of all
 --   taken_below, test_below    fewer bytes than there are
-use Prim.Native.Nat.{ℕ, zero, suc, ◌+◌, ◌%◌, ◌≤◌, ◌<◌}
+use Prim.Native.Nat.{ℕ, zero, suc, ◌+◌, ◌≤◌, ◌<◌}
 use mathlib.Core.Path.{◌≡◌, refl, sym}
 use mathlib.Core.Bool.{Bool, true, false}
 use mathlib.Core.List.{List, [], ◌∷◌}
@@ -15,7 +15,7 @@ use lib.ListN.{length, take, drop, length-take}
 use lib.Seq.{length-take-le, take-take, take_all}
 use Rattle.wire.specs.Fields.{field, same_bytes}
 use Rattle.wire.specs.Constants.{NBDMAGIC, IHAVEOPT, OLDSTYLE}
-use Rattle.client.specs.Session.{State, Magic, Style, Newstyle, SizeAndFlags, Filler, Hearing, Shaking, Calling, Over, judge_magic, oldstyle, judge_style, size_and_flags_length, judge_size_and_flags, replied, heard}
+use Rattle.client.specs.Session.{State, Magic, Style, Newstyle, SizeAndFlags, Filler, Hearing, Shaking, Calling, Over, judge_magic, oldstyle, judge_style, size_and_flags_length, flags_of, judge_size_and_flags, replied, heard}
 use Rattle.client.specs.declared.state.Device.{Device}
 use Rattle.client.specs.declared.state.Call.{Call}
 
@@ -85,22 +85,15 @@ pub terms_most : (old : Bool) → size_and_flags_length old ≤ 16
 terms_most true = omega arith
 terms_most false = omega arith
 
-module _ (n : ℕ) (old : Bool) (h : List ℕ) (k : ℕ) (long : length h ≡ 16) (some : size_and_flags_length old ≤ k) (most : k ≤ size_and_flags_length old) where
-  pub terms_old : old ≡ true → Shaking n (Filler (field h 0 8) (field h 8 4 % 65536) true 124) ≡ judge_size_and_flags n old (take k h)
-  unfolding judge_size_and_flags
-  terms_old o =
-      let p : 12 ≤ k = rw o at some in
-      let q : k ≤ 12 = rw o at most in
-      let e : k ≡ 12 = omega arith in
-      rw (o, e, length-take-le 12 h (omega arith), take_part 0 8 12 h (omega arith), take_part 8 4 12 h (omega arith))
-
-  pub terms_new : old ≡ false → Shaking n (Filler (field h 0 8) (field h 8 2) true 124) ≡ judge_size_and_flags n old (take k h)
-  unfolding judge_size_and_flags
-  terms_new o =
-      let p : 10 ≤ k = rw o at some in
-      let q : k ≤ 10 = rw o at most in
-      let e : k ≡ 10 = omega arith in
-      rw (o, e, length-take-le 10 h (omega arith), take_part 0 8 10 h (omega arith), take_part 8 2 10 h (omega arith))
+pub terms_whole : (n : ℕ) (old : Bool) (h : List ℕ) (k : ℕ) → length h ≡ 16 → size_and_flags_length old ≤ k → k ≤ size_and_flags_length old
+    → Shaking n (Filler (field h 0 8) (flags_of old h) true 124) ≡ judge_size_and_flags n old (take k h)
+unfolding judge_size_and_flags
+terms_whole n true h k long some most =
+    let e : k ≡ 12 = omega arith in
+    rw (e, length-take-le 12 h (omega arith), take_part 0 8 12 h (omega arith), take_part 8 4 12 h (omega arith))
+terms_whole n false h k long some most =
+    let e : k ≡ 10 = omega arith in
+    rw (e, length-take-le 10 h (omega arith), take_part 0 8 10 h (omega arith), take_part 8 2 10 h (omega arith))
 
 pub reply_whole : (d : Device) (c : Call) (h : List ℕ) (k : ℕ) → length h ≡ 16 → 16 ≤ k → replied d c h ≡ heard d c (take k h)
 unfolding heard

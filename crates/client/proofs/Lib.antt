@@ -6,6 +6,7 @@ pub mod Refusals
 pub mod Tidy
 pub mod Numbers
 pub mod Result
+pub mod Resting
 pub mod Alone
 pub mod Changes
 pub mod Closing

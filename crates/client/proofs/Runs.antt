@@ -8,7 +8,7 @@
 use Prim.Native.Nat.{ℕ, zero, suc, min, ◌+◌, ◌-◌, ◌≤◌, ◌<◌}
 use mathlib.Core.Path.{◌≡◌, refl, sym, ap, ◌∙◌}
 use mathlib.Core.Bool.{Bool}
-use mathlib.Core.List.{List, [], ◌∷◌}
+use mathlib.Core.List.{List, [], ◌∷◌, append-nil}
 use native.Mathlib.Omega.{arith}
 use lib.Dec.{eqb}
 use lib.ListN.{length, take, drop, get_or, set, length-take}
@@ -17,7 +17,7 @@ use Rattle.machine.specs.Choice.{both}
 use Rattle.machine.specs.Machine.{on, gives, Moves, still, by_take}
 use Rattle.machine.specs.Pieces.{Absorbs, Emits}
 use Rattle.machine.proofs.Families.{Sends, Gathers}
-use Rattle.machine.proofs.Leaves.{gather_leaf, send_leaf, drop_leaf, fold_leaf}
+use Rattle.machine.proofs.Leaves.{absorbs_none, gather_leaf, send_leaf, drop_leaf, fold_leaf}
 use Rattle.wire.specs.Fields.{be}
 use Rattle.wire.specs.Layouts.{request}
 use Rattle.client.specs.Calls.{payload, wanted, request_bytes}
@@ -34,9 +34,15 @@ use Rattle.machine.proofs.Zeros.{blank_fold}
 
 -- ---- bytes gathered in the state, and judged when there are `to`
 module _ (wait judge : List ℕ → State) (to : ℕ) (quiet : (h : List ℕ) → length h < to → judge h ≡ wait h) where
-  pub gathered_leaf : {head head' input m : List ℕ} {have taken : ℕ} {x : State} → Gathers turn wait judge m → have < to → to ≤ length head → 0 < length input
+  pub gathered_leaf : {head head' input m : List ℕ} {have taken : ℕ} {x : State} → Gathers turn wait judge m → have < to → to ≤ length head
       → Gathered head have to input head' taken → x ≡ judge (take (have + taken) head') → Absorbs turn (on (wait (take have head)) m) input taken (on x m)
-  gathered_leaf {head = head} {have = have} each below fits some g e =
+  gathered_leaf {head = head} {input = []} {m = m} {have = have} {taken = taken} {x = x} each below fits g e =
+      let k : length (take have head) ≡ have = length-take-le have head (omega arith) in
+      let none : taken ≡ 0 = omega (arith, g.least) in
+      let same : x ≡ wait (take have head) =
+      e ∙ ap judge g.bytes ∙ rw (none, append-nil (take have head)) (quiet (take have head) (rw k below)) in
+      rw (none, same) (absorbs_none refl)
+  gathered_leaf {head = head} {input = b ∷ input} {have = have} each below fits g e =
       let k : length (take have head) ≡ have = length-take-le have head (omega arith) in
       gather_leaf wait judge to each (take have head) (λ h lo hi. quiet h hi) (rw k below) (rw k g.least) (λ z. omega arith) (e ∙ ap judge g.bytes)
 

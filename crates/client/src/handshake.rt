@@ -1,6 +1,5 @@
 // The handshake: both styles, up to the 152nd byte.
 ghost use Rattle.std.specs.Prelude.{◌≡◌, List, ℕ, ◌<◌, ◌≤◌, length, take};
-ghost use Rattle.machine.specs.Choice.{both};
 ghost use Rattle.client.specs.Calls.{has, fields_of};
 ghost use Rattle.client.specs.Session.{
   Magic,
@@ -18,15 +17,16 @@ ghost use Rattle.client.specs.Session.{
   greeting,
   newstyle,
   size_and_flags_length,
+  flags_of,
   judge_size_and_flags,
   judged,
   filler,
 };
 ghost use Rattle.client.specs.View.{view_of, filler_of, handshake_of};
-ghost use Rattle.machine.specs.Parts.{blank};
 ghost use Rattle.client.specs.Inner.{Some, GoodShaking, Absorbed, Emitted};
 
-use crate::state::{Client, Device, Fields, Filler, Gave, Handshake, Outcome, Phase, Took, Value};
+use crate::state::{Client, Device, Fields, Filler, Handshake, Outcome, Phase, Value};
+use machine::ends::{Gave, Took};
 use machine::{copy, parts};
 use wire::{consts, fields};
 
@@ -37,11 +37,7 @@ fn has(flags: u16, bit: u16) -> bool
     requires { 0 < bit }
     ensures { result ≡ has flags bit }
 {
-    if flags % 2 == 1 {
-        flags / bit % 2 == 1
-    } else {
-        false
-    }
+    flags % 2 == 1 && flags / bit % 2 == 1
 }
 
 fn fields_of(flags: u16) -> Fields
@@ -111,21 +107,13 @@ fn judged(size: u64, flags: u16, clean: bool) -> Phase
     }
 }
 
-fn filler(name: usize, size: u64, flags: u16, clean: bool, left: usize) -> Phase
-    ensures { (h : List ℕ) → view_of h result ≡ filler name size flags clean left }
+fn filler(name: usize, f: Filler) -> Phase
+    ensures { (h : List ℕ) → view_of h result ≡ filler name f.size f.flags f.clean f.left }
 {
-    if left == 0 {
-        judged(size, flags, clean)
+    if f.left == 0 {
+        judged(f.size, f.flags, f.clean)
     } else {
-        Phase::Shaking(
-            name,
-            Handshake::Filler(Filler {
-                size,
-                flags,
-                clean,
-                left,
-            }),
-        )
+        Phase::Shaking(name, Handshake::Filler(f))
     }
 }
 
@@ -175,10 +163,20 @@ fn judge_style(name: usize, head: [u8; 16], k: usize) -> Phase
 }
 
 // How long the size and the flags are.
-fn size_and_flags_length(old: bool) -> usize
+pub fn size_and_flags_length(old: bool) -> usize
     ensures { result ≡ size_and_flags_length old }
 {
     if old { 12 } else { 10 }
+}
+
+fn flags_of(old: bool, head: [u8; 16]) -> u16
+    ensures { result ≡ flags_of old head }
+{
+    if old {
+        (fields::read_u32(&head, 8) % 65536) as u16
+    } else {
+        fields::read_u16(&head, 8)
+    }
 }
 
 // The first k bytes of the size and the flags are there.
@@ -189,30 +187,15 @@ fn judge_size_and_flags(name: usize, old: bool, head: [u8; 16], k: usize) -> Pha
     if k < size_and_flags_length(old) {
         return Phase::Shaking(name, Handshake::SizeAndFlags { old, have: k });
     }
-    let size = fields::read_u64(&head, 0);
-    if old {
-        let flags = (fields::read_u32(&head, 8) % 65536) as u16;
-        Phase::Shaking(
-            name,
-            Handshake::Filler(Filler {
-                size,
-                flags,
-                clean: true,
-                left: 124,
-            }),
-        )
-    } else {
-        let flags = fields::read_u16(&head, 8);
-        Phase::Shaking(
-            name,
-            Handshake::Filler(Filler {
-                size,
-                flags,
-                clean: true,
-                left: 124,
-            }),
-        )
-    }
+    Phase::Shaking(
+        name,
+        Handshake::Filler(Filler {
+            size: fields::read_u64(&head, 0),
+            flags: flags_of(old, head),
+            clean: true,
+            left: 124,
+        }),
+    )
 }
 
 // ---- what is sent
@@ -231,99 +214,115 @@ fn hello(n: u32) -> [u8; 20]
 
 // ---- one leaf for each phase
 
-// Whether the filler was 0 before, and is in these bytes.
-fn all_zero(clean: bool, bytes: &[u8]) -> bool
-    ensures { result ≡ both clean (blank bytes.now) }
-{
-    if clean { parts::blank(bytes, 0) } else { false }
-}
-
-fn take_magic(head: [u8; 16], name: usize, have: usize, input: &[u8]) -> Took
-    requires { (have < 8) × (0 < length input.now) }
+fn take_magic(head: [u8; 16], name: usize, have: usize, input: &[u8]) -> Took<Client>
+    requires { have < 8 }
     ensures { (m : List ℕ) → Absorbed (Shaking name (Magic (take have head))) m input.now result m }
 {
     let mut bytes = head;
     let n = parts::gather(&mut bytes, have, 8, input);
-    let phase = judge_magic(name, bytes, have + n);
     Took {
-        state: Client { phase, head: bytes },
+        state: Client {
+            phase: judge_magic(name, bytes, have + n),
+            head: bytes,
+        },
         taken: n,
     }
 }
 
-fn take_style(head: [u8; 16], name: usize, have: usize, input: &[u8]) -> Took
-    requires { (have < 8) × (0 < length input.now) }
+fn take_style(head: [u8; 16], name: usize, have: usize, input: &[u8]) -> Took<Client>
+    requires { have < 8 }
     ensures { (m : List ℕ) → Absorbed (Shaking name (Style (take have head))) m input.now result m }
 {
     let mut bytes = head;
     let n = parts::gather(&mut bytes, have, 8, input);
-    let phase = judge_style(name, bytes, have + n);
     Took {
-        state: Client { phase, head: bytes },
+        state: Client {
+            phase: judge_style(name, bytes, have + n),
+            head: bytes,
+        },
         taken: n,
     }
 }
 
 // A new-style server's flags, of `count` bytes of input.
-fn skip_flags(head: [u8; 16], name: usize, left: usize, count: usize) -> Took
+fn skip_flags(head: [u8; 16], name: usize, left: usize, count: usize) -> Took<Client>
     requires { 0 < left }
     ensures { (m input : List ℕ) → length input ≡ count → Absorbed (Shaking name (Newstyle left)) m input result m }
 {
-    let n = copy::least(left, count);
-    let phase = newstyle(name, left - n);
+    let n = left.min(count);
     Took {
-        state: Client { phase, head },
+        state: Client {
+            phase: newstyle(name, left - n),
+            head,
+        },
         taken: n,
     }
 }
 
-fn send_hello(head: [u8; 16], name: usize, left: usize, room: &mut [u8]) -> Gave
+fn send_hello(head: [u8; 16], name: usize, left: usize, room: &mut [u8]) -> Gave<Client>
     requires { (name ≤ 4096) × Some 20 left }
     ensures { (m : List ℕ) → Emitted (Shaking name (Hello left)) m room.old result room.new }
 {
-    let bytes = hello(name as u32);
-    let n = parts::give(&bytes, left, room);
-    let phase = greeting(name, left - n);
+    let n = parts::give(&hello(name as u32), left, room);
     Gave {
-        state: Client { phase, head },
+        state: Client {
+            phase: greeting(name, left - n),
+            head,
+        },
         given: n,
     }
 }
 
-fn send_name(head: [u8; 16], name: usize, left: usize, lent: &[u8], room: &mut [u8]) -> Gave
+fn send_name(head: [u8; 16], name: usize, left: usize, lent: &[u8], room: &mut [u8]) -> Gave<Client>
     requires { (name ≡ length lent.now) × Some name left }
     ensures { Emitted (Shaking name (Naming left)) lent.now room.old result room.new }
 {
     let n = parts::give(lent, left, room);
-    let phase = naming(name, left - n);
     Gave {
-        state: Client { phase, head },
+        state: Client {
+            phase: naming(name, left - n),
+            head,
+        },
         given: n,
     }
 }
 
-fn take_size_and_flags(head: [u8; 16], name: usize, old: bool, have: usize, input: &[u8]) -> Took
-    requires { (have < size_and_flags_length old) × (0 < length input.now) }
+fn take_size_and_flags(
+    head: [u8; 16],
+    name: usize,
+    old: bool,
+    have: usize,
+    input: &[u8],
+) -> Took<Client>
+    requires { have < size_and_flags_length old }
     ensures { (m : List ℕ) → Absorbed (Shaking name (SizeAndFlags old (take have head))) m input.now result m }
 {
     let mut bytes = head;
     let n = parts::gather(&mut bytes, have, size_and_flags_length(old), input);
-    let phase = judge_size_and_flags(name, old, bytes, have + n);
     Took {
-        state: Client { phase, head: bytes },
+        state: Client {
+            phase: judge_size_and_flags(name, old, bytes, have + n),
+            head: bytes,
+        },
         taken: n,
     }
 }
 
-fn take_filler(head: [u8; 16], name: usize, p: Filler, input: &[u8]) -> Took
-    requires { 0 < p.left }
-    ensures { (m : List ℕ) → Absorbed (Shaking name (filler_of p)) m input.now result m }
+fn take_filler(head: [u8; 16], name: usize, f: Filler, input: &[u8]) -> Took<Client>
+    requires { 0 < f.left }
+    ensures { (m : List ℕ) → Absorbed (Shaking name (filler_of f)) m input.now result m }
 {
-    let n = copy::least(p.left, input.len());
-    let still = all_zero(p.clean, &input[..n]);
-    let phase = filler(name, p.size, p.flags, still, p.left - n);
+    let n = f.left.min(input.len());
+    let after = Filler {
+        clean: f.clean && parts::blank(&input[..n], 0),
+        left: f.left - n,
+        ..f
+    };
     Took {
-        state: Client { phase, head },
+        state: Client {
+            phase: filler(name, after),
+            head,
+        },
         taken: n,
     }
 }
@@ -331,52 +330,32 @@ fn take_filler(head: [u8; 16], name: usize, p: Filler, input: &[u8]) -> Took
 // ---- the phases put together
 
 // Takes what the phase takes of the input.
-pub fn absorb(head: [u8; 16], name: usize, p: Handshake, input: &[u8]) -> Took
-    requires { (0 < length input.now) × GoodShaking name (handshake_of head p) }
+pub fn absorb(head: [u8; 16], name: usize, p: Handshake, input: &[u8]) -> Took<Client>
+    requires { GoodShaking name (handshake_of head p) }
     ensures { (m : List ℕ) → Absorbed (Shaking name (handshake_of head p)) m input.now result m }
 {
     match p {
         Handshake::Magic { have } => take_magic(head, name, have, input),
         Handshake::Style { have } => take_style(head, name, have, input),
         Handshake::Newstyle { left } => skip_flags(head, name, left, input.len()),
-        Handshake::Hello { .. } => Took::none(Client {
-            phase: Phase::Shaking(name, p),
-            head,
-        }),
-        Handshake::Naming { .. } => Took::none(Client {
-            phase: Phase::Shaking(name, p),
-            head,
-        }),
         Handshake::SizeAndFlags { old, have } => take_size_and_flags(head, name, old, have, input),
         Handshake::Filler(f) => take_filler(head, name, f, input),
+        _ => Took::none(Client {
+            phase: Phase::Shaking(name, p),
+            head,
+        }),
     }
 }
 
 // Gives what the phase owes into the room.
-pub fn emit(head: [u8; 16], name: usize, p: Handshake, lent: &[u8], room: &mut [u8]) -> Gave
+pub fn emit(head: [u8; 16], name: usize, p: Handshake, lent: &[u8], room: &mut [u8]) -> Gave<Client>
     requires { (name ≡ length lent.now) × (name ≤ 4096) × GoodShaking name (handshake_of head p) }
     ensures { Emitted (Shaking name (handshake_of head p)) lent.now room.old result room.new }
 {
     match p {
-        Handshake::Magic { .. } => Gave::none(Client {
-            phase: Phase::Shaking(name, p),
-            head,
-        }),
-        Handshake::Style { .. } => Gave::none(Client {
-            phase: Phase::Shaking(name, p),
-            head,
-        }),
-        Handshake::Newstyle { .. } => Gave::none(Client {
-            phase: Phase::Shaking(name, p),
-            head,
-        }),
         Handshake::Hello { left } => send_hello(head, name, left, room),
         Handshake::Naming { left } => send_name(head, name, left, lent, room),
-        Handshake::SizeAndFlags { .. } => Gave::none(Client {
-            phase: Phase::Shaking(name, p),
-            head,
-        }),
-        Handshake::Filler(_) => Gave::none(Client {
+        _ => Gave::none(Client {
             phase: Phase::Shaking(name, p),
             head,
         }),

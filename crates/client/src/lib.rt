@@ -293,16 +293,12 @@ impl Client {
                 outcome: Outcome::Refused(why.number()),
             };
         }
-        let r = ends::advance(self, input, room, b"", lent);
-        let end = r.state;
-        let p = end.phase;
-        let outcome = step::outcome_of(p);
-        let state = step::canonical(end);
+        let r = ends::advance(self, input, room, &[], lent);
         Stepped {
-            state,
+            state: step::canonical(r.state),
             taken: r.taken,
             given: r.given,
-            outcome,
+            outcome: step::outcome_of(r.state.phase),
         }
     }
 }

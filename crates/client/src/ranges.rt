@@ -15,11 +15,11 @@ ghost use Rattle.client.specs.Ranges.{
   refusal_of,
 };
 
-use crate::calls;
 use crate::refusal::Refusal;
 use crate::state::{Call, Client, Device, Handshake, Phase, Progress};
+use crate::{calls, handshake};
 use machine::parts;
-use machine::tests::{between, both, within};
+use machine::tests::within;
 
 // ---- the ranges
 
@@ -29,11 +29,11 @@ fn ranged_shaking(head: [u8; 16], name: usize, p: Handshake) -> bool
     match p {
         Handshake::Magic { have } => have < 8,
         Handshake::Style { have } => have < 8,
-        Handshake::Newstyle { left } => between(1, 2, left),
-        Handshake::Hello { left } => between(1, 20, left),
-        Handshake::Naming { left } => between(1, name, left),
-        Handshake::SizeAndFlags { old, have } => if old { have < 12 } else { have < 10 },
-        Handshake::Filler(f) => between(1, 124, f.left),
+        Handshake::Newstyle { left } => (1..=2).contains(&left),
+        Handshake::Hello { left } => (1..=20).contains(&left),
+        Handshake::Naming { left } => (1..=name).contains(&left),
+        Handshake::SizeAndFlags { old, have } => have < handshake::size_and_flags_length(old),
+        Handshake::Filler(f) => (1..=124).contains(&f.left),
     }
 }
 
@@ -41,21 +41,17 @@ fn ranged_shaking(head: [u8; 16], name: usize, p: Handshake) -> bool
 fn part(d: Device, n: u32) -> bool
     ensures { result ≡ part d n }
 {
-    both(
-        0 < n,
-        within(d.position as usize, n as usize, d.size as usize),
-    )
+    0 < n && within(d.position as usize, n as usize, d.size as usize)
 }
 
 fn ranged_call(d: Device, c: Call) -> bool
     ensures { result ≡ ranged_call d c }
 {
     match c {
-        Call::Read { n, len } => if n as usize <= len { part(d, n) } else { false },
-        Call::Write { n, len } => if n as usize <= len { part(d, n) } else { false },
-        Call::Flush => true,
+        Call::Read { n, len } => n as usize <= len && part(d, n),
+        Call::Write { n, len } => n as usize <= len && part(d, n),
         Call::Trim { n } => part(d, n),
-        Call::Resize { .. } => true,
+        _ => true,
     }
 }
 
@@ -63,10 +59,10 @@ fn ranged_progress(head: [u8; 16], c: Call, p: Progress) -> bool
     ensures { result ≡ ranged_progress c (progress_of head p) }
 {
     match p {
-        Progress::Asking { left } => between(1, 28, left),
-        Progress::Paying { left } => between(1, calls::payload(c) as usize, left),
+        Progress::Asking { left } => (1..=28).contains(&left),
+        Progress::Paying { left } => (1..=calls::payload(c) as usize).contains(&left),
         Progress::Hearing { have } => have < 16,
-        Progress::Filling { left } => between(1, calls::wanted(c) as usize, left),
+        Progress::Filling { left } => (1..=calls::wanted(c) as usize).contains(&left),
     }
 }
 
@@ -74,34 +70,18 @@ fn ranged_progress(head: [u8; 16], c: Call, p: Progress) -> bool
 fn ends(n: u8) -> bool
     ensures { result ≡ ends n }
 {
-    let k = n as usize;
-    if between(40, 43, k) {
-        return true;
-    }
-    if between(45, 46, k) {
-        return true;
-    }
-    n == 50
+    matches!(n, 40..=43 | 45..=46 | 50)
 }
 
 fn ranged(head: [u8; 16], p: Phase) -> bool
     ensures { result ≡ ranged (view_of head p) }
 {
     match p {
-        Phase::Blank => true,
-        Phase::Shaking(name, h) => if name <= 4096 {
-            ranged_shaking(head, name, h)
-        } else {
-            false
-        },
-        Phase::Ready(_) => true,
-        Phase::Calling(d, c, g) => if ranged_call(d, c) {
-            ranged_progress(head, c, g)
-        } else {
-            false
-        },
-        Phase::Closed(_, _) => false,
+        Phase::Shaking(name, h) => name <= 4096 && ranged_shaking(head, name, h),
+        Phase::Calling(d, c, g) => ranged_call(d, c) && ranged_progress(head, c, g),
         Phase::Over(n) => ends(n),
+        Phase::Closed(_, _) => false,
+        _ => true,
     }
 }
 
@@ -113,11 +93,8 @@ fn used_shaking(p: Handshake) -> usize
     match p {
         Handshake::Magic { have } => have,
         Handshake::Style { have } => have,
-        Handshake::Newstyle { .. } => 0,
-        Handshake::Hello { .. } => 0,
-        Handshake::Naming { .. } => 0,
         Handshake::SizeAndFlags { have, .. } => have,
-        Handshake::Filler(_) => 0,
+        _ => 0,
     }
 }
 
@@ -125,10 +102,8 @@ fn used_calling(p: Progress) -> usize
     ensures { result ≡ used_calling p }
 {
     match p {
-        Progress::Asking { .. } => 0,
-        Progress::Paying { .. } => 0,
         Progress::Hearing { have } => have,
-        Progress::Filling { .. } => 0,
+        _ => 0,
     }
 }
 
@@ -137,26 +112,17 @@ pub fn used(p: Phase) -> usize
     ensures { result ≡ used p }
 {
     match p {
-        Phase::Blank => 0,
         Phase::Shaking(_, h) => used_shaking(h),
-        Phase::Ready(_) => 0,
         Phase::Calling(_, _, g) => used_calling(g),
-        Phase::Closed(_, _) => 0,
-        Phase::Over(_) => 0,
+        _ => 0,
     }
 }
 
+// Whether a client is within its ranges.
 pub fn in_range(s: Client) -> bool
     ensures { result ≡ in_range s }
 {
-    let head = s.head;
-    let p = s.phase;
-    let k = used(p);
-    if parts::blank(&head, k) {
-        ranged(head, p)
-    } else {
-        false
-    }
+    parts::blank(&s.head, used(s.phase)) && ranged(s.head, s.phase)
 }
 
 // ---- what a step refuses

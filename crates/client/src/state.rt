@@ -1,7 +1,5 @@
 // Where a session stands. The phases are named as in specs/Session.antt; docs/STATES.md has their ranges.
 
-use machine::ends;
-
 // What the export's flags say.
 #[derive(Clone, Copy)]
 pub struct Fields {
@@ -122,9 +120,3 @@ pub struct Client {
     pub phase: Phase,
     pub head: [u8; 16],
 }
-
-// ---- what the parts of a step answer
-
-pub type Took = ends::Took<Client>;
-
-pub type Gave = ends::Gave<Client>;

@@ -2,7 +2,7 @@
 use native.Mathlib.Omega.{arith}
 use borrow.Author.Rules.{rules}
 use Rattle.client.specs.Session.{SizeAndFlags, Shaking, judge_size_and_flags, size_and_flags_length}
-use Rattle.client.proofs.Header.{terms_most, terms_part, part_waits, terms_old, terms_new}
+use Rattle.client.proofs.Header.{terms_most, terms_part, part_waits, terms_whole}
 use Rattle.client.proofs.handshake.judge_size_and_flags.Goals as goal
 
 pub returns-then-k-size_and_flags_length : goal.returns-then-k-size_and_flags_length
@@ -10,12 +10,7 @@ returns-then-k-size_and_flags_length c =
     let a = c.args in
     part_waits (λ h. Shaking a.name (SizeAndFlags a.old h)) (judge_size_and_flags a.name a.old) (size_and_flags_length a.old) (terms_part a.name a.old) a.head a.k (omega (arith, terms_most a.old)) (rw c.size_and_flags_length.ensures at c.if-k-size_and_flags_length.true)
 
-pub returns-then-old : goal.returns-then-old
-returns-then-old c =
+pub returns : goal.returns
+returns c =
     let a = c.args in
-    rw (c.read_u64-size.ensures, c.read_u32.ensures) (terms_old a.name a.old a.head a.k (search rules) (rw c.size_and_flags_length.ensures at c.if-k-size_and_flags_length.false) c.requires c.if-old.true)
-
-pub returns-else-old : goal.returns-else-old
-returns-else-old c =
-    let a = c.args in
-    rw (c.read_u64-size.ensures, c.read_u16-flags.ensures) (terms_new a.name a.old a.head a.k (search rules) (rw c.size_and_flags_length.ensures at c.if-k-size_and_flags_length.false) c.requires c.if-old.false)
+    rw (c.read_u64.ensures, c.flags_of.ensures) (terms_whole a.name a.old a.head a.k (search rules) (rw c.size_and_flags_length.ensures at c.if-k-size_and_flags_length.false) c.requires)

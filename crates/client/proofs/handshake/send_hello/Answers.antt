@@ -10,4 +10,4 @@ pub returns : goal.returns
 returns c =
     let a = c.args in
     let p = c.requires in
-    λ m. owed_leaf (greeting a.name) (hello a.name) m (λ _. refl) c.hello-bytes.ensures p.1.0 (rw (length_hello a.name) p.1.1) (greeting_more a.name a.left (omega arith)) c.give-n.ensures (c.greeting-phase.ensures a.head)
+    λ m. owed_leaf (greeting a.name) (hello a.name) m (λ _. refl) c.hello.ensures p.1.0 (rw (length_hello a.name) p.1.1) (greeting_more a.name a.left (omega arith)) c.give-n.ensures (c.greeting.ensures a.head)

@@ -3,4 +3,4 @@ use Rattle.client.proofs.Runs.{skip_leaf}
 use Rattle.client.proofs.handshake.skip_flags.Goals as goal
 
 pub returns : goal.returns
-returns c = λ m input e. skip_leaf _ c.requires (rw e c.least-n.ensures) (c.newstyle-phase.ensures _)
+returns c = λ m input e. skip_leaf _ c.requires (rw e c.min-n.ensures) (c.newstyle.ensures _)

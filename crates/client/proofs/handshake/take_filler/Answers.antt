@@ -1,13 +1,16 @@
 -- Whether all are 0 is a fold of the bytes, and the code folds as many as there are.
-use native.Mathlib.Omega.{arith}
-use lib.ListN.{length-take}
+use mathlib.Core.Path.{◌≡◌, ◌∙◌}
+use lib.ListN.{take}
+use Rattle.machine.specs.Choice.{both}
+use Rattle.machine.specs.Parts.{blank}
 use Rattle.client.proofs.Runs.{filler_leaf}
 use Rattle.client.proofs.handshake.take_filler.Goals as goal
+use Rattle.client.proofs.handshake.take_filler.Goals.{then-f, else-f}
 
-pub slice_bounds-all_zero-end : goal.slice_bounds-all_zero-end
-slice_bounds-all_zero-end c = omega (arith, length-take c.least-n.result c.args.input.now)
+still : (c : goal.After-filler) → c.if-f.after ≡ both c.args.f.clean (blank (take c.min-n.result c.args.input.now))
+still c = elim c.if-f.branch [ then-f w ↦ w.after-is ∙ w.blank.ensures ∙ rw w.if-f.true | else-f w ↦ w.after-is ∙ rw w.if-f.false ]
 
 pub returns : goal.returns
 returns c =
     let a = c.args in
-    λ m. filler_leaf a.name a.p.size a.p.flags a.p.clean c.requires c.least-n.ensures (rw c.all_zero-still.ensures at (c.filler-phase.ensures a.head))
+    λ m. filler_leaf a.name a.f.size a.f.flags a.f.clean c.requires c.min-n.ensures (rw (still c) at (c.filler.ensures a.head))

@@ -3,14 +3,15 @@ use mathlib.Core.Path.{◌∙◌}
 use borrow.Author.Rules.{rules}
 use Rattle.client.specs.Session.{Hearing, Calling, heard}
 use Rattle.client.proofs.Header.{reply_part, part_waits, reply_whole}
-use Rattle.client.proofs.transmission.heard.Goals as goal
+use Rattle.client.proofs.transmission.Exchange.heard.Goals as goal
 
 pub returns-then-k-lt16 : goal.returns-then-k-lt16
 returns-then-k-lt16 c =
     let a = c.args in
-    part_waits (λ h. Calling a.d a.c (Hearing h)) (heard a.d a.c) 16 (reply_part a.d a.c) a.head a.k (search rules) c.if-k-lt16.true
+    let x = a.self in
+    c.at.ensures a.head ∙ part_waits (λ h. Calling x.device x.call (Hearing h)) (heard x.device x.call) 16 (reply_part x.device x.call) a.head a.k (search rules) c.if-k-lt16.true
 
 pub returns-else-k-lt16 : goal.returns-else-k-lt16
 returns-else-k-lt16 c =
     let a = c.args in
-    c.replied.ensures a.head ∙ reply_whole a.d a.c a.head a.k (search rules) c.if-k-lt16.false
+    c.replied.ensures a.head ∙ reply_whole a.self.device a.self.call a.head a.k (search rules) c.if-k-lt16.false

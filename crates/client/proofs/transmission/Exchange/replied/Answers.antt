@@ -2,7 +2,7 @@
 use mathlib.Core.Path.{◌∙◌}
 use borrow.Author.Tests.{ne_eqb}
 use Rattle.client.specs.Session.{replied}
-use Rattle.client.proofs.transmission.replied.Goals as goal
+use Rattle.client.proofs.transmission.Exchange.replied.Goals as goal
 
 pub returns-then-signature-ne-NBD_REPLY_MAGIC : goal.returns-then-signature-ne-NBD_REPLY_MAGIC
 unfolding replied

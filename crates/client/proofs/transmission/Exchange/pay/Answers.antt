@@ -6,7 +6,7 @@ use Rattle.client.specs.Calls.{payload}
 use Rattle.client.specs.Session.{paying}
 use Rattle.client.proofs.Left.{paying_more}
 use Rattle.client.proofs.Runs.{owed_leaf}
-use Rattle.client.proofs.transmission.pay.Goals as goal
+use Rattle.client.proofs.transmission.Exchange.pay.Goals as goal
 
 pub slice_bounds-give-end : goal.slice_bounds-give-end
 slice_bounds-give-end c = omega (arith, length-take c.payload-all.result c.args.lent.now)
@@ -18,4 +18,4 @@ pub returns : goal.returns
 returns c =
     let a = c.args in
     let p = c.requires in
-    owed_leaf (paying a.d a.c) (take (payload a.c) a.lent.now) a.lent.now (λ _. refl) (rw c.payload-all.ensures) p.1.0 (omega (arith, length-take (payload a.c) a.lent.now)) (paying_more a.d a.c a.left (omega arith)) c.give-n.ensures (c.paying-phase.ensures a.head)
+    owed_leaf (paying a.self.device a.self.call) (take (payload a.self.call) a.lent.now) a.lent.now (λ _. refl) (rw c.payload-all.ensures) p.1.0 (omega (arith, length-take (payload a.self.call) a.lent.now)) (paying_more a.self.device a.self.call a.left (omega arith)) c.give-n.ensures (c.paying.ensures a.head)

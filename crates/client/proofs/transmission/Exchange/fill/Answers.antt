@@ -3,12 +3,12 @@ use Prim.Native.Nat.{ℕ, ◌-◌}
 use mathlib.Core.Path.{ap, ◌∙◌}
 use lib.Seq.{paste}
 use Rattle.client.proofs.Runs.{fill_leaf}
-use Rattle.client.proofs.transmission.fill.Goals as goal
+use Rattle.client.proofs.transmission.Exchange.fill.Goals as goal
 
 pub returns : goal.returns
 returns c =
     let a = c.args in
     let p = c.requires in
-    let n = c.least-n.result in
+    let n = c.min-n.result in
     let place = ap (λ (all : ℕ). paste a.lent.now (all - a.left) a.input.now n) c.wanted-all.ensures in
-    fill_leaf a.d a.c p.2.0 p.2.1 p.1 c.least-n.ensures (c.filling-phase.ensures a.head) (c.copy_part.ensures ∙ place)
+    fill_leaf a.self.device a.self.call p.1.0 p.1.1 p.0 c.min-n.ensures (c.filling.ensures a.head) (c.copy_part.ensures ∙ place)
