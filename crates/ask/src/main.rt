@@ -9,12 +9,10 @@ mod words;
 
 ghost use Rattle.std.specs.Io.{ReadsAtMost};
 
-use client::state::Outcome;
 use host::words::{fail, say, tell};
 use host::{args, files, text};
+use obeying::Session;
 use std::io::Result;
-use talk::Talk;
-use words::Told;
 
 // What one call moves at most, and a byte more.
 const BUFFER: usize = 4194305;
@@ -23,7 +21,7 @@ const BUFFER: usize = 4194305;
 const SCRIPT: usize = 65537;
 
 // Does what a line says, and tells how it went.
-fn obey_line(rt: &HostRuntime, talk: &mut Talk, k: u64, line: &[u8], buffer: &mut [u8]) {
+fn obey_line(session: &mut Session, k: u64, line: &[u8]) {
     let at = text::skip(line, 0);
     if text::is_end(line, at) {
         return;
@@ -31,30 +29,22 @@ fn obey_line(rt: &HostRuntime, talk: &mut Talk, k: u64, line: &[u8], buffer: &mu
     tell(format_args!("ask: line {k}: "));
     let mut name = io::buffer();
     match orders::parse(line, at, &mut name) {
-        Some(order) => obeying::obey(rt, talk, order, buffer),
+        Some(order) => session.obey(order),
         None => say(
             b"read N FILE, write FILE, seek start|position|end N, flush, trim N or resize N is meant\n",
         ),
     }
 }
 
-// The lines, until the session is over.
-fn obey_all(rt: &HostRuntime, talk: &mut Talk, script: &[u8], buffer: &mut [u8]) {
-    for (k, line) in (1u64..).zip(script.split(|b| *b == b'\n')) {
-        if matches!(talk.outcome, Outcome::Open | Outcome::Ended(_)) {
-            return;
-        }
-        obey_line(rt, talk, k, line, buffer);
-    }
-}
-
-// The handshake, and the calls.
+// The handshake, and the lines until the session is over.
 fn connect(rt: &HostRuntime, name: &mut [u8], script: &[u8], buffer: &mut [u8]) {
-    let mut talk = Talk::new(rt.stdin());
-    let c = talk.client.handshake(name);
-    talk.drive(c, name);
-    tell(format_args!("ask: {}\n", Told(talk.outcome)));
-    obey_all(rt, &mut talk, script, buffer);
+    let mut session = Session::open(rt, name, buffer);
+    for (k, line) in (1u64..).zip(script.split(|b| *b == b'\n')) {
+        if session.is_over() {
+            break;
+        }
+        obey_line(&mut session, k, line);
+    }
 }
 
 fn start(rt: &HostRuntime, script: &[u8], buffer: &mut [u8]) {

@@ -1,4 +1,5 @@
 // The calls that the orders name.
+ghost use Rattle.std.specs.Prelude.{◌≡◌, ◌≤◌, length};
 ghost use Rattle.std.specs.Io.{ReadsAtMost};
 
 use crate::orders::Order;
@@ -10,36 +11,17 @@ use host::files;
 use host::words::{fail, say, tell};
 use std::io::{Result, Write};
 
-// Makes a call, and says how that went.
-fn call(talk: &mut Talk, c: Called, lent: &mut [u8]) {
-    talk.drive(c, lent);
-    tell(format_args!("{}\n", Told(talk.outcome)));
-}
-
-// A call that lends no buffer.
-fn call_without(talk: &mut Talk, c: Called) {
-    call(talk, c, &mut []);
+// A talk, and the buffer for what its calls move.
+#[derive(Drop)]
+pub struct Session<'r, 'b> {
+    rt: &'r HostRuntime,
+    talk: Talk,
+    buffer: &'b mut [u8],
 }
 
 // Writes what was read to the file.
 fn save(rt: &HostRuntime, name: &[u8], bytes: &[u8]) -> Result<()> {
     files::open_overwrite(rt, name)?.write_all(bytes)
-}
-
-fn read(rt: &HostRuntime, talk: &mut Talk, n: u64, name: &[u8], buffer: &mut [u8]) {
-    let n = n as usize;
-    if buffer.len() < n {
-        say(b"only its first bytes: ");
-    }
-    let most = buffer.len();
-    let lent = &mut buffer[..n.min(most)];
-    call(talk, talk.client.read(lent), lent);
-    if let Outcome::Succeeded(Value::Bytes(got)) = talk.outcome {
-        let got = lent.len().min(got as usize);
-        if let Err(e) = save(rt, name, &lent[..got]) {
-            fail(b"the file cannot be written", e);
-        }
-    }
 }
 
 // What the file of this name holds.
@@ -49,28 +31,70 @@ fn load(rt: &HostRuntime, name: &[u8], buffer: &mut [u8]) -> Result<usize>
     files::fill(&mut files::open_read(rt, name)?, buffer)
 }
 
-// The bytes of the file. Where they fill the buffer, it may have more, and nothing is sent.
-fn write(rt: &HostRuntime, talk: &mut Talk, name: &[u8], buffer: &mut [u8]) {
-    match load(rt, name, buffer) {
-        Ok(n) if n == buffer.len() => {
-            say(b"the file is too large, one call moves at most 4194304 bytes\n")
-        }
-        Ok(n) => {
-            let lent = &mut buffer[..n];
-            call(talk, talk.client.write(lent), lent);
-        }
-        Err(e) => fail(b"the file cannot be read", e),
+impl<'r, 'b> Session<'r, 'b> {
+    // The handshake.
+    pub fn open(rt: &'r HostRuntime, name: &mut [u8], buffer: &'b mut [u8]) -> Session<'r, 'b> {
+        let mut talk = Talk::new(rt.stdin());
+        let c = talk.client.handshake(name);
+        talk.drive(c, name);
+        tell(format_args!("ask: {}\n", Told(talk.outcome)));
+        Session { rt, talk, buffer }
     }
-}
 
-pub fn obey(rt: &HostRuntime, talk: &mut Talk, order: Order, buffer: &mut [u8]) {
-    let client = talk.client;
-    match order {
-        Order::Read { n, file } => read(rt, talk, n, file, buffer),
-        Order::Write { file } => write(rt, talk, file, buffer),
-        Order::Seek(from) => call_without(talk, client.seek(from)),
-        Order::Flush => call_without(talk, client.flush()),
-        Order::Trim(n) => call_without(talk, client.trim(n)),
-        Order::Resize(n) => call_without(talk, client.resize(n)),
+    // Whether no call can be made any more.
+    pub fn is_over(&self) -> bool {
+        matches!(self.talk.outcome, Outcome::Open | Outcome::Ended(_))
+    }
+
+    // Makes a call that is lent the first bytes of the buffer, and says how that went.
+    fn call(&mut self, c: Called, lent: usize)
+        requires { lent ≤ length self.old.buffer.now }
+        ensures { length self.new.buffer.now ≡ length self.old.buffer.now }
+    {
+        self.talk.drive(c, &mut self.buffer[..lent]);
+        tell(format_args!("{}\n", Told(self.talk.outcome)));
+    }
+
+    fn read(&mut self, n: u64, name: &[u8]) {
+        let n = n as usize;
+        let most = self.buffer.len();
+        if most < n {
+            say(b"only its first bytes: ");
+        }
+        let lent = n.min(most);
+        let c = self.talk.client.read(&self.buffer[..lent]);
+        self.call(c, lent);
+        if let Outcome::Succeeded(Value::Bytes(got)) = self.talk.outcome {
+            let got = lent.min(got as usize);
+            if let Err(e) = save(self.rt, name, &self.buffer[..got]) {
+                fail(b"the file cannot be written", e);
+            }
+        }
+    }
+
+    // The bytes of the file. Where they fill the buffer, it may have more, and nothing is sent.
+    fn write(&mut self, name: &[u8]) {
+        match load(self.rt, name, self.buffer) {
+            Ok(n) if n == self.buffer.len() => {
+                say(b"the file is too large, one call moves at most 4194304 bytes\n")
+            }
+            Ok(n) => {
+                let c = self.talk.client.write(&self.buffer[..n]);
+                self.call(c, n);
+            }
+            Err(e) => fail(b"the file cannot be read", e),
+        }
+    }
+
+    pub fn obey(&mut self, order: Order) {
+        let client = self.talk.client;
+        match order {
+            Order::Read { n, file } => self.read(n, file),
+            Order::Write { file } => self.write(file),
+            Order::Seek(from) => self.call(client.seek(from), 0),
+            Order::Flush => self.call(client.flush(), 0),
+            Order::Trim(n) => self.call(client.trim(n), 0),
+            Order::Resize(n) => self.call(client.resize(n), 0),
+        }
     }
 }
