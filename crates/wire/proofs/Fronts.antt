@@ -3,6 +3,7 @@
 --   sized_fits     what such a length gives
 --   sized_broken   any other length is a fault
 --   front_sized    a list that is not empty begins with a length
+--   front_none, front_broken, front_fits   what stands there, by the length
 --   front_empty    nothing only where there is no byte
 --   front_record   a record's bytes stand there, with the record's ranges (Stands)
 --   front_bytes    the bytes of a record, with whatever behind them, are read as that record
@@ -90,6 +91,19 @@ pub front_sized : (l : List ℕ) → 0 < length l → front l ≡ sized l (field
 unfolding front
 front_sized [] h = absurd (omega arith)
 front_sized (b ∷ l) h = refl
+
+pub front_none : (l : List ℕ) → length l ≡ 0 → front l ≡ nothing
+unfolding front
+front_none [] h = refl
+front_none (b ∷ l) h = absurd (omega arith)
+
+pub front_broken : (l : List ℕ) → 0 < length l → (Fits l (field l 0 2) → ⊥) → front l ≡ broken
+front_broken l h unfit = front_sized l h ∙ sized_broken l (field l 0 2) unfit
+
+pub front_fits : (l : List ℕ) {n : ℕ} → n ≡ field l 0 2 → Fits l n → front l ≡ entry (record_of (take n (drop 2 l))) (drop n (drop 2 l))
+front_fits l {n} e f =
+    let h = f.within in
+    front_sized l (omega arith) ∙ ap (sized l) (sym e) ∙ sized_fits l n f ∙ ap (entry (record_of (take n (drop 2 l)))) (sym (drop-drop n 2 l))
 
 pub front_empty : (l : List ℕ) → front l ≡ nothing → l ≡ []
 unfolding front

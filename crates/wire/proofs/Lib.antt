@@ -8,7 +8,6 @@ pub mod Tests
 pub mod Words
 pub mod Fronts
 pub mod Soundness
-pub mod Places
 pub mod Walks
 pub mod Sieves
 pub mod Found

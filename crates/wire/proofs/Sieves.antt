@@ -8,7 +8,6 @@
 --   sieved_lt          the word of a sieve over 32 digits; sieved_set: it stands for the sieve
 --   Sieving            what holds of the walk: what is known and what is due make the whole
 --   sieve_start, sieve_turn, sieve_fits, sieve_end   the walk over records
---   table_turn, table_fits, table_none, table_out   the walk over a table's places
 use Prim.Native.Nat.{ℕ, zero, suc, ◌+◌, ◌-◌, ◌*◌, ◌/◌, ◌%◌, ◌^◌, ◌≤◌, ◌<◌}
 use mathlib.Core.Path.{◌≡◌, refl, ap, ◌∙◌}
 use mathlib.Core.Bool.{Bool, true, false}
@@ -21,15 +20,10 @@ use lib.Dec.{eqb}
 use borrow.Author.Tests.{lt-ltb, le-ltb}
 use Rattle.machine.specs.Choice.{pick, both}
 use Rattle.wire.specs.Fields.{same_bytes}
-use Rattle.wire.specs.Table.{Record, records_in}
+use Rattle.wire.specs.Table.{Record}
 use Rattle.wire.specs.Lookup.{started_in, started, has, narrowed, narrowed_by, digit, word, bits, set_of}
-use Rattle.wire.specs.Walk.{has_all, record_at, FrontAt, sieve, passed}
+use Rattle.wire.specs.Walk.{has_all, sieve, passed}
 use Rattle.wire.specs.declared.lookup.Sieve.{Sieve}
-use Rattle.wire.specs.declared.table.Front.{Front as CodeFront}
-use Rattle.wire.specs.declared.table.Entry.{Entry}
-use Rattle.wire.specs.declared.table.Front.TheVariants.{Record as IsRecord}
-use Rattle.wire.proofs.Places.{found, Ends, found_none}
-use Rattle.wire.proofs.Walks.{records_turn, records_out}
 use Rattle.wire.proofs.Words.{word_lt, bits_word, length_bits}
 
 abbrev pub sieved : (Record → Bool) → List Record → List Bool → List Bool
@@ -130,16 +124,19 @@ word_none : (p : Record → Bool) (set : List Bool) → word (sieved p [] set) �
 word_none p [] = refl
 word_none p (x ∷ set) = let z = word_none p set in omega arith
 
-pub record Sieving (p : Record → Bool) (whole k : ℕ) (rs : List Record) (s : Sieve) : Type 0 where
-  pub value : s.done + s.weight * word (sieved p rs (bits k s.left)) ≡ whole
-  pub weight : s.weight * 2 ^ k ≡ 2 ^ 32
+-- `many`: how many digits of the old set are left
+pub record Sieving (p : Record → Bool) (whole : ℕ) (rs : List Record) (s : Sieve) : Type 0 where
+  pub many : ℕ
+  pub enough : length rs ≤ many
+  pub value : s.done + s.weight * word (sieved p rs (bits many s.left)) ≡ whole
+  pub weight : s.weight * 2 ^ many ≡ 2 ^ 32
 
-pub sieve_start : (p : Record → Bool) (rs : List Record) (set : ℕ) → Sieving p (word (sieved p rs (bits 32 set))) 32 rs (sieve set)
-sieve_start p rs set = record { value = omega arith; weight = refl }
+pub sieve_start : (p : Record → Bool) (rs : List Record) (set : ℕ) → length rs ≤ 32 → Sieving p (word (sieved p rs (bits 32 set))) rs (sieve set)
+sieve_start p rs set few = record { many = 32; enough = few; value = omega arith; weight = refl }
 
-pub sieve_end : {p : Record → Bool} {whole k : ℕ} {rs : List Record} {s : Sieve} → Sieving p whole k rs s → rs ≡ [] → s.done ≡ whole
-sieve_end {p} {whole} {k} {rs} {s} w e =
-    let none : word (sieved p rs (bits k s.left)) ≡ 0 = rw e (word_none p (bits k s.left)) in
+pub sieve_end : {p : Record → Bool} {whole : ℕ} {rs : List Record} {s : Sieve} → Sieving p whole rs s → rs ≡ [] → s.done ≡ whole
+sieve_end {p} {whole} {rs} {s} w e =
+    let none : word (sieved p rs (bits w.many s.left)) ≡ 0 = rw e (word_none p (bits w.many s.left)) in
     let value : s.done + s.weight * 0 ≡ whole = rw none at w.value in
     omega arith
 
@@ -148,47 +145,27 @@ turn_value : (d w rest : ℕ) (t : Bool) → d + pick t w 0 + w * 2 * rest ≡ d
 turn_value d w rest true = omega (arith, mul-add w 1 (2 * rest), mul_assoc w 2 rest)
 turn_value d w rest false = omega (arith, mul-add w 0 (2 * rest), mul_assoc w 2 rest)
 
-pub sieve_turn : {p : Record → Bool} {whole k : ℕ} {r : Record} {rs : List Record} {s : Sieve} → Sieving p whole k (r ∷ rs) s → 0 < k
-    → Sieving p whole (k - 1) rs (passed s (p r))
+turn : (p : Record → Bool) (whole : ℕ) (r : Record) (rs : List Record) (s : Sieve) (k : ℕ)
+    → suc (length rs) ≤ k → s.done + s.weight * word (sieved p (r ∷ rs) (bits k s.left)) ≡ whole → s.weight * 2 ^ k ≡ 2 ^ 32
+    → Sieving p whole rs (passed s (p r)) × (s.weight < 2 ^ 32)
 unfolding bits
-sieve_turn {k = zero} w h = absurd (omega arith)
-sieve_turn {p} {whole} {k = suc k} {r} {rs} {s} w h =
-    let less : suc k - 1 ≡ k = omega arith in
-    rw less
-    record {
-      value = turn_value s.done s.weight (word (sieved p rs (bits k (s.left / 2)))) (both (eqb (s.left % 2) 1) (p r)) ∙ w.value;
-      weight = mul_assoc s.weight 2 (2 ^ k) ∙ rw (← pow-succ' 2 k) w.weight;
-    }
-
-weight_lt : (w k : ℕ) → 0 < k → w * 2 ^ k ≡ 2 ^ 32 → w < 2 ^ 32
-weight_lt w zero h e = absurd (omega arith)
-weight_lt w (suc k) h e =
+turn p whole r rs s zero few v w = absurd (omega arith)
+turn p whole r rs s (suc k) few v w =
     let pos : 1 ≤ 2 ^ k = one-le-pow k 2 (omega arith) in
-    let double : w * 2 ≤ w * 2 ^ suc k = rw (pow-succ' 2 k) (mul-le-mul_left w (omega arith)) in
-    omega arith
+    let double : s.weight * 2 ≤ s.weight * 2 ^ suc k = rw (pow-succ' 2 k) (mul-le-mul_left s.weight (omega arith)) in
+    (
+      record {
+        many = k;
+        enough = omega arith;
+        value = turn_value s.done s.weight (word (sieved p rs (bits k (s.left / 2)))) (both (eqb (s.left % 2) 1) (p r)) ∙ v;
+        weight = mul_assoc s.weight 2 (2 ^ k) ∙ rw (← pow-succ' 2 k) w;
+      },
+      omega arith,
+    )
 
-pub sieve_fits : {p : Record → Bool} {whole k : ℕ} {r : Record} {rs : List Record} {s : Sieve} → Sieving p whole k (r ∷ rs) s → 0 < k → whole < 2 ^ 32
-    → (s.weight < 2 ^ 32) × ((passed s (p r)).done < 2 ^ 32)
-sieve_fits {k = k} {s = s} w h small =
-    let value = (sieve_turn w h).value in
-    (weight_lt s.weight k h w.weight, omega arith)
+module _ {p : Record → Bool} {whole : ℕ} {r : Record} {rs : List Record} {s : Sieve} (w : Sieving p whole (r ∷ rs) s) where
+  pub sieve_turn : Sieving p whole rs (passed s (p r))
+  sieve_turn = (turn p whole r rs s w.many w.enough w.value w.weight).0
 
--- ---- the places of a table
-module _ {p : Record → Bool} {whole k i : ℕ} {t : List ℕ} {s : Sieve} (w : Sieving p whole k (records_in k (drop i t)) s) where
-  here : {f : CodeFront} {e : Entry} → FrontAt t i f → f ≡ IsRecord e → 0 < k → Sieving p whole k (record_at t e ∷ records_in (k - 1) (drop e.next t)) s
-  here {e = e} f q h = rw (records_turn k (drop i t) (found f (IsRecord e) q) h) at w
-
-  pub table_turn : {f : CodeFront} {e : Entry} → FrontAt t i f → f ≡ IsRecord e → 0 < k
-      → {fits : Bool} {s' : Sieve} → s' ≡ passed s fits → fits ≡ p (record_at t e) → Sieving p whole (k - 1) (records_in (k - 1) (drop e.next t)) s'
-  table_turn f q h a b = rw (a, b) (sieve_turn (here f q h) h)
-
-  pub table_fits : {f : CodeFront} {e : Entry} → FrontAt t i f → f ≡ IsRecord e → 0 < k → {fits : Bool} → fits ≡ p (record_at t e) → whole < 2 ^ 32
-      → (s.weight < 2 ^ 32) × ((passed s fits).done < 2 ^ 32)
-  table_fits f q h b small = rw b (sieve_fits (here f q h) h small)
-
-  pub table_none : {f g : CodeFront} → FrontAt t i f → f ≡ g → Ends g → s.done ≡ whole
-  table_none f q h = sieve_end w (found_none f q h k)
-
-pub table_out : {p : Record → Bool} {whole k : ℕ} {s : Sieve} (i : ℕ) (t : List ℕ) → Sieving p whole k (records_in k (drop i t)) s → k ≤ 0
-    → s.done ≡ whole
-table_out {k = k} i t w h = sieve_end w (records_out k (drop i t) h)
+  pub sieve_fits : whole < 2 ^ 32 → (s.weight < 2 ^ 32) × ((passed s (p r)).done < 2 ^ 32)
+  sieve_fits small = let value = sieve_turn.value in ((turn p whole r rs s w.many w.enough w.value w.weight).1, omega arith)

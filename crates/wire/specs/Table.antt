@@ -10,20 +10,21 @@
 --   first_fault      the first of two faults
 --   judged, faults n k   the first fault from what stands at the front on; the same with at most k records more
 --   fault n t       the number of its first fault for an image of n bytes, 20 to 25; 0 where it is sound
---   fault_of         01's number for each answer of the code
+--   number_of f      01's number for each fault
+--   fault_of         the number that the code's answer stands for: 0, or its fault's
 --   record_bytes, records_bytes, table_bytes   the bytes of a record, of records and of a table
 --   SoundRecord n r, Each n rs   01's rules on a record, and on each of a list
 --   Sound n rs      01's rules on the records, for an image of n bytes
 --   bit k f, read_only f   whether bit k of the table flags f is set; whether they say read-only
 --   wire_flags f     the flags that the server sends for an export with the table flags f
-use Rattle.std.specs.Prelude.{ℕ, zero, suc, ◌+◌, ◌/◌, ◌%◌, ◌^◌, ◌≤◌, ◌<◌, ◌≡◌, Bool, true, List, [], ◌∷◌, ◌++◌, eqb, ltb, leb, length, get_or, take, drop}
+use Rattle.std.specs.Prelude.{ℕ, zero, suc, ◌+◌, ◌/◌, ◌%◌, ◌^◌, ◌≤◌, ◌<◌, ◌≡◌, Bool, true, List, [], ◌∷◌, ◌++◌, eqb, ltb, leb, length, get_or, take, drop, Result, Ok, Err, ⊤}
 use Rattle.machine.specs.Choice.{pick, both, between}
 use Rattle.wire.specs.Fields.{be, field, Bytes}
 use Rattle.wire.specs.Constants.{NBD_FLAG_HAS_FLAGS, NBD_FLAG_READ_ONLY, NBD_FLAG_SEND_FLUSH, NBD_FLAG_ROTATIONAL, NBD_FLAG_SEND_TRIM, NBD_FLAG_SEND_RESIZE}
 use Rattle.wire.specs.Utf8.{valid}
 use Rattle.wire.specs.declared.table.Export.{Export}
-use Rattle.wire.specs.declared.table.Checked.{Checked}
-use Rattle.wire.specs.declared.table.Checked.TheVariants.{Sound as IsSound, Version, Length, Count, Window, Flags, Name}
+use Rattle.wire.specs.declared.table.Fault.{Fault}
+use Rattle.wire.specs.declared.table.Fault.TheVariants.{Version, Length, Count, Window, Flags, Name}
 
 pub record Record : Type 0 where
   pub start : ℕ
@@ -94,14 +95,17 @@ unfoldable pub fault : ℕ → List ℕ → ℕ
 fault n [] = 20
 fault n (v ∷ l) = pick (eqb v 1) (faults n 32 l) 20
 
-abbrev pub fault_of : Checked → ℕ
-fault_of IsSound = 0
-fault_of Version = 20
-fault_of Length = 21
-fault_of Count = 22
-fault_of Window = 23
-fault_of Flags = 24
-fault_of Name = 25
+abbrev pub number_of : Fault → ℕ
+number_of Version = 20
+number_of Length = 21
+number_of Count = 22
+number_of Window = 23
+number_of Flags = 24
+number_of Name = 25
+
+abbrev pub fault_of : Result ⊤ Fault → ℕ
+fault_of (Ok sound) = 0
+fault_of (Err f) = number_of f
 
 -- ---- soundness without the reading: which lists of records a table may hold, and its bytes
 unfoldable pub record_bytes : Record → List ℕ

@@ -5,5 +5,6 @@ pub mod consts;
 pub mod fields;
 pub mod lookup;
 pub mod number;
+pub mod records;
 pub mod table;
 pub mod utf8;

@@ -3,10 +3,9 @@
 ghost use Rattle.std.specs.Prelude.{◌≡◌, ◌^◌, ◌<◌, length};
 ghost use Rattle.wire.specs.Table.{records};
 ghost use Rattle.wire.specs.Lookup.{started, narrowed_by, chosen, set_of};
-ghost use Rattle.wire.specs.Walk.{has_all, record_at, Inside, sieve, share, passed};
+ghost use Rattle.wire.specs.Walk.{seen, has_all, sieve, share, passed};
 
-use crate::fields;
-use crate::table::{Entry, Front, MAX_RECORDS, front_at};
+use crate::records::{Entry, Records};
 
 // A set that is made record by record: the digits of the old one that are left, the next one's weight, and what is known of the new one.
 #[derive(Clone, Copy)]
@@ -32,8 +31,8 @@ impl Sieve {
         requires { self.weight < 2 ^ 32 }
         ensures { result ≡ share self fits }
     {
-        if self.left % 2 == 1 {
-            if fits { self.weight as u32 } else { 0 }
+        if self.left % 2 == 1 && fits {
+            self.weight as u32
         } else {
             0
         }
@@ -44,51 +43,29 @@ impl Sieve {
         requires { (self.weight < 2 ^ 32) × ((passed self fits).done < 2 ^ 32) }
         ensures { result ≡ passed self fits }
     {
-        let more = self.share(fits);
         Sieve {
             left: self.left / 2,
             weight: self.weight * 2,
-            done: self.done + more,
+            done: self.done + self.share(fits),
         }
     }
 }
 
 // Whether a record's name has these bytes from the place `at` on.
-fn agrees(table: &[u8], e: Entry, at: usize, part: &[u8]) -> bool
-    requires { Inside table.now e × (0 < length part.now) }
-    ensures { result ≡ has_all (record_at table.now e) at part.now }
+fn agrees(e: Entry<'_>, at: usize, part: &[u8]) -> bool
+    requires { 0 < length part.now }
+    ensures { result ≡ has_all (seen e.entry) at part.now }
 {
-    let len = e.len;
-    if len < at {
-        return false;
-    }
-    if len - at < part.len() {
-        return false;
-    }
-    let a = e.name + at;
-    let b = a + part.len();
-    fields::same(&table[a..b], part)
+    e.name.len() >= at && e.name[at..].starts_with(part)
 }
 
 // The exports whose names are that long.
 pub fn started(table: &[u8], len: usize) -> u32
     ensures { set_of result ≡ started (records table.now) len }
 {
-    let mut s = Sieve::new(0xFFFF_FFFF);
-    let mut at = 1;
-    let mut left = MAX_RECORDS;
-    while 0 < left {
-        let f = front_at(table, at);
-        match f {
-            Front::End => return s.done,
-            Front::Broken => return s.done,
-            Front::Record(e) => {
-                let fits = e.len == len;
-                s = s.pass(fits);
-                at = e.next;
-            }
-        }
-        left -= 1;
+    let mut s = Sieve::new(u32::MAX);
+    for e in Records::of(table) {
+        s = s.pass(e.name.len() == len);
     }
     s.done
 }
@@ -97,24 +74,12 @@ pub fn started(table: &[u8], len: usize) -> u32
 pub fn narrowed(set: u32, table: &[u8], at: usize, part: &[u8]) -> u32
     ensures { set_of result ≡ narrowed_by (records table.now) at part.now (set_of set) }
 {
-    if part.len() == 0 {
+    if part.is_empty() {
         return set;
     }
     let mut s = Sieve::new(set);
-    let mut place = 1;
-    let mut left = MAX_RECORDS;
-    while 0 < left {
-        let f = front_at(table, place);
-        match f {
-            Front::End => return s.done,
-            Front::Broken => return s.done,
-            Front::Record(e) => {
-                let fits = agrees(table, e, at, part);
-                s = s.pass(fits);
-                place = e.next;
-            }
-        }
-        left -= 1;
+    for e in Records::of(table) {
+        s = s.pass(agrees(e, at, part));
     }
     s.done
 }

@@ -2,4 +2,4 @@
 use Rattle.wire.proofs.lookup.Sieve.pass.Goals as goal
 
 pub returns : goal.returns
-returns c = let more = c.share-more.ensures in cc
+returns c = let more = c.share.ensures in cc
