@@ -9,6 +9,7 @@ pub mod Words
 pub mod Fronts
 pub mod Soundness
 pub mod Walks
+pub mod Iterations
 pub mod Sieves
 pub mod Found
 pub mod Answers

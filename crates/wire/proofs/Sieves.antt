@@ -3,7 +3,7 @@
 --   started_sieved     starting is a sieve over all 32
 --   narrowed_sieved    narrowing by a part of a name, a byte after the other, is one sieve by the whole part
 --   narrowed_none      no byte, no change
---   has_all_same       a record has all the bytes of a part where the same bytes stand in its name
+--   has_all_starts     a record has all the bytes of a part where its name, from the place on, starts with them
 --   has_all_long       it has not where the part passes the name's end
 --   sieved_lt          the word of a sieve over 32 digits; sieved_set: it stands for the sieve
 --   Sieving            what holds of the walk: what is known and what is due make the whole
@@ -14,12 +14,14 @@ use mathlib.Core.Bool.{Bool, true, false}
 use mathlib.Core.List.{List, [], ◌∷◌}
 use native.Mathlib.Omega.{arith}
 use native.Mathlib.Nat.{pow-suc, pow-succ', one-le-pow, mul-add, mul_assoc, mul-le-mul_left}
-use lib.ListN.{length, take, drop}
+use lib.ListN.{length, get_or, drop, drop_of_length-le}
 use lib.Seq.{drop-cons}
-use lib.Dec.{eqb}
-use borrow.Author.Tests.{lt-ltb, le-ltb}
+use lib.Dec.{eqb, ltb}
+use Rattle.std.specs.Prelude.{◌&&◌}
+use Rattle.std.specs.List.{starts_with}
+use Rattle.std.specs.Cmp.{nat_eq_equiv}
+use borrow.Author.Tests.{le-ltb, ltb-true, ltb-false}
 use Rattle.machine.specs.Choice.{pick, both}
-use Rattle.wire.specs.Fields.{same_bytes}
 use Rattle.wire.specs.Table.{Record}
 use Rattle.wire.specs.Lookup.{started_in, started, has, narrowed, narrowed_by, digit, word, bits, set_of}
 use Rattle.wire.specs.Walk.{has_all, sieve, passed}
@@ -94,12 +96,24 @@ narrowed_none rs i [] set h = refl
 narrowed_none rs i (b ∷ bs) set h = absurd (omega arith)
 
 -- ---- one record against a part
-pub has_all_same : (r : Record) (i : ℕ) (bs : List ℕ) → i + length bs ≤ length r.name → has_all r i bs ≡ same_bytes (take (length bs) (drop i r.name)) bs
-unfolding same_bytes
-has_all_same r i [] h = refl
-has_all_same r i (b ∷ bs) h =
-    let l : i < length r.name = omega arith in
-    rw (drop-cons r.name i 0 l, lt-ltb i (length r.name) l, has_all_same r (suc i) bs (omega arith))
+-- the library's test, byte by byte
+starts_cons : (b c : ℕ) (bs l : List ℕ) → starts_with eqb (c ∷ l) (b ∷ bs) ≡ both (eqb c b) (starts_with eqb l bs)
+starts_cons b c bs l = rw (nat_eq_equiv.symm b c) (go (eqb c b))
+  where
+    go : (t : Bool) → (t && starts_with eqb l bs) ≡ both t (starts_with eqb l bs)
+    go true = refl
+    go false = refl
+
+pub has_all_starts : (r : Record) (i : ℕ) (bs : List ℕ) → starts_with eqb (drop i r.name) bs ≡ has_all r i bs
+has_all_starts r i [] = refl
+has_all_starts r i (b ∷ bs) = go (ltb i (length r.name)) refl (has_all_starts r (suc i) bs)
+  where
+    go : (t : Bool) → ltb i (length r.name) ≡ t → starts_with eqb (drop (suc i) r.name) bs ≡ has_all r (suc i) bs
+        → starts_with eqb (drop i r.name) (b ∷ bs) ≡ has_all r i (b ∷ bs)
+    go true e rest =
+        let c = get_or r.name i 0 in
+        rw (drop-cons r.name i 0 (ltb-true i (length r.name) e), e, starts_cons b c bs (drop (suc i) r.name), rest)
+    go false e rest = rw (drop_of_length-le r.name {i = i} (ltb-false i (length r.name) e), e)
 
 pub has_all_long : (r : Record) (i : ℕ) (bs : List ℕ) → 0 < length bs → length r.name < i + length bs → has_all r i bs ≡ false
 has_all_long r i [] n h = absurd (omega arith)
@@ -152,8 +166,7 @@ unfolding bits
 turn p whole r rs s zero few v w = absurd (omega arith)
 turn p whole r rs s (suc k) few v w =
     let pos : 1 ≤ 2 ^ k = one-le-pow k 2 (omega arith) in
-    let double : s.weight * 2 ≤ s.weight * 2 ^ suc k = rw (pow-succ' 2 k) (mul-le-mul_left s.weight (omega arith)) in
-    (
+    let double : s.weight * 2 ≤ s.weight * 2 ^ suc k = rw (pow-succ' 2 k) (mul-le-mul_left s.weight (omega arith)) in (
       record {
         many = k;
         enough = omega arith;

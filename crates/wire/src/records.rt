@@ -82,9 +82,7 @@ impl<'a> Iterator for Records<'a> {
         if self.left == 0 {
             return None;
         }
-        let Ok(Some((e, behind))) = front(self.bytes) else {
-            return None;
-        };
+        let (e, behind) = front(self.bytes).ok().flatten()?;
         self.bytes = behind;
         self.left -= 1;
         Some(e)

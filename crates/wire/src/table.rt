@@ -85,9 +85,12 @@ pub fn record_fault(e: Entry<'_>, image: usize) -> Result<(), Fault>
 pub fn check(table: &[u8], image: usize) -> Result<(), Fault>
     ensures { fault_of result ≡ fault image table.now }
 {
-    let Some((1, behind)) = table.split_first() else {
+    let Some((version, behind)) = table.split_first() else {
         return Err(Fault::Version);
     };
+    if *version != 1 {
+        return Err(Fault::Version);
+    }
     let mut rest = behind;
     for _ in 0..MAX_RECORDS {
         let Some((e, behind)) = records::front(rest)? else {

@@ -1,8 +1,6 @@
 -- each test of the code is one of those that `front` makes of the length
-use Prim.Native.Nat.{◌<◌}
-use mathlib.Core.Path.{◌≡◌, sym, ◌∙◌}
+use mathlib.Core.Path.{sym, ◌∙◌}
 use native.Mathlib.Omega.{arith}
-use lib.ListN.{length}
 use borrow.Author.Tests.{eqb-true, eqb-false}
 use Rattle.wire.proofs.Fronts.{front_none, front_broken, front_fits}
 use Rattle.wire.proofs.records.front.Goals as goal
@@ -23,11 +21,11 @@ returns-then-n-lt17 c =
     sym
     (front_broken c.args.bytes.now (omega arith)
     (λ f.
-        elim c.then-n-lt17.branch [
-          then-n-lt17-via-then-n-lt17 w ↦ omega (arith, w.if-n-lt17.true, f.low)
-        | then-n-lt17-via-else-n-lt17+then-n-gt4113 w ↦ omega (arith, w.if-n-gt4113.true, f.high)
-        | then-n-lt17-via-else-n-lt17+else-n-gt4113+then-behind-n w ↦ omega (arith, w.if-behind-n.true, f.within)
-        ]))
+    elim c.then-n-lt17.branch [
+      | then-n-lt17-via-then-n-lt17 w ↦ omega (arith, w.if-n-lt17.true, f.low)
+      | then-n-lt17-via-else-n-lt17+then-n-gt4113 w ↦ omega (arith, w.if-n-gt4113.true, f.high)
+      | then-n-lt17-via-else-n-lt17+else-n-gt4113+then-behind-n w ↦ omega (arith, w.if-behind-n.true, f.within)
+    ]))
 
 pub returns : goal.returns
 returns c =

@@ -1,11 +1,14 @@
 -- a table without its first byte
-use Rattle.std.proofs.Common.{rules}
-use mathlib.Core.Path.{◌≡◌, ap}
-use lib.ListN.{drop}
-use Rattle.std.proofs.lemmas.Option.{gets}
+use mathlib.Core.Path.{refl, ap, ◌∙◌}
+use mathlib.Core.List.{List}
+use Prim.Native.Nat.{ℕ}
+use Rattle.std.specs.Borrow.{Bor}
 use Rattle.wire.specs.Table.{records, records_in}
+use Rattle.wire.proofs.Iterations.{behind_version}
 use Rattle.wire.proofs.records.Records.of.Goals as goal
 
 pub returns : goal.returns
 unfolding records
-returns c = let behind : c.unwrap_or.result.now ≡ drop 1 c.args.table.now = search (rules, gets) in ap (records_in 32) behind
+returns c =
+    let behind = ap (λ (p : Bor (List ℕ)). p.now) c.unwrap_or.ensures ∙ behind_version c.args.table.now c.get.result _ refl c.get.ensures.lookup.0 in
+    ap (records_in 32) behind
