@@ -9,6 +9,7 @@ mod say;
 mod texts;
 
 use machine::copy::least;
+use wire::table::Fault;
 use wire::{fields, table};
 
 // Standard input.
@@ -19,7 +20,7 @@ const LONGEST: usize = 4200;
 
 // The number of a table's first fault, or 0.
 fn judge(image: u64, t: &[u8]) {
-    let fault = table::check(t, image as usize).number();
+    let fault = table::check(t, image as usize).map_or_else(Fault::number, |()| 0);
     say::number(fault as u64);
 }
 

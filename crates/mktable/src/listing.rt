@@ -1,11 +1,10 @@
 // From a table to lines of text that make it again.
-ghost use Rattle.wire.specs.Walk.{Inside};
-
 use crate::STDOUT;
 use host::faults;
 use host::words::say;
+use wire::records::{Entry, Records};
 use wire::table;
-use wire::table::{Entry, Export, Front};
+use wire::table::Export;
 
 fn write(text: &[u8]) {
     io::write_all(STDOUT, text);
@@ -54,32 +53,21 @@ fn write_export(x: Export) {
     write(b"\n");
 }
 
-fn write_record(table: &[u8], e: Entry)
-    requires { Inside table.now e }
-{
-    write_name(&table[e.name..e.next]);
+fn write_record(e: Entry<'_>) {
+    write_name(e.name);
     write_export(e.export);
 }
 
-// The records of a table that is sound.
-fn write_records(table: &[u8]) {
-    let mut at = 1;
-    for _ in 0..table::MAX_RECORDS {
-        let Front::Record(e) = table::front_at(table, at) else {
-            return;
-        };
-        write_record(table, e);
-        at = e.next;
-    }
-}
-
 pub fn list(table: &[u8], image: usize) {
-    let c = table::check(table, image);
-    let fault = c.number();
-    if fault == 0 {
-        write_records(table);
-    } else {
-        say(b"mktable: ");
-        faults::say_bad_table(fault, table, image);
+    match table::check(table, image) {
+        Ok(()) => {
+            for e in Records::of(table) {
+                write_record(e);
+            }
+        }
+        Err(fault) => {
+            say(b"mktable: ");
+            faults::say_bad_table(fault, table, image);
+        }
     }
 }

@@ -8,7 +8,7 @@ use host::text::{Mistake, Number};
 use host::words::{say, tell};
 use host::{faults, text};
 use std::fmt;
-use wire::table::Export;
+use wire::table::{Export, Fault};
 use wire::{fields, table};
 
 // What a line asks for: so many bytes of the name buffer are the record's name.
@@ -23,14 +23,14 @@ pub struct Record {
 enum Wrong {
     Mistake(Mistake),
     // with it the table would have this fault
-    Fault(u8),
+    Fault(Fault),
 }
 
 impl fmt::Display for Wrong {
     fn fmt<W: fmt::Write>(&self, f: &mut fmt::Formatter<W>) -> fmt::Result {
         match self {
             Wrong::Mistake(m) => write!(f, "{m}"),
-            Wrong::Fault(n) => f.write_str(faults::text(*n)),
+            Wrong::Fault(fault) => f.write_str(faults::text(*fault)),
         }
     }
 }
@@ -111,13 +111,11 @@ fn try_record(
     ensures { IfOk result (λ end. end ≤ length table.old) }
 {
     if table.len() - n < 19 + name.len() {
-        return Err(Wrong::Fault(22));
+        return Err(Wrong::Fault(Fault::Count));
     }
     let end = add_record(table, n, x, name);
-    match table::check(&table[..end], image).number() {
-        0 => Ok(end),
-        fault => Err(Wrong::Fault(fault)),
-    }
+    table::check(&table[..end], image).map_err(Wrong::Fault)?;
+    Ok(end)
 }
 
 // Adds what a line says. It answers where the table ends.
@@ -143,13 +141,12 @@ fn write_table(table: &[u8], image: usize)
 }
 
 fn finish(table: &[u8], image: usize) {
-    let c = table::check(table, image);
-    let fault = c.number();
-    if fault == 0 {
-        write_table(table, image);
-    } else {
-        say(b"mktable: ");
-        faults::say_bad_table(fault, table, image);
+    match table::check(table, image) {
+        Ok(()) => write_table(table, image),
+        Err(fault) => {
+            say(b"mktable: ");
+            faults::say_bad_table(fault, table, image);
+        }
     }
 }
 

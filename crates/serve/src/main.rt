@@ -139,9 +139,7 @@ fn report(stop: Stop) {
 fn serve(rt: &HostRuntime, file: &File, table: &[u8], image: &mut [u8])
     requires { length image.old ≤ 4194304 }
 {
-    let c = table::check(table, image.len());
-    let fault = c.number();
-    if fault != 0 {
+    if let Err(fault) = table::check(table, image.len()) {
         say(b"serve: ");
         faults::say_bad_table(fault, table, image.len());
         return;

@@ -17,7 +17,7 @@ use Rattle.std.specs.Prelude.{ℕ, ◌+◌, Bool, not, List, eqb, ltb, leb, leng
 use Rattle.machine.specs.Choice.{pick, both, either, between}
 use Rattle.machine.specs.Parts.{blank}
 use Rattle.wire.specs.Constants.{NBD_OPT_EXPORT_NAME, NBD_OPT_INFO, NBD_OPT_GO, NBD_OPT_STRUCTURED_REPLY, NBD_OPT_EXTENDED_HEADERS, NBD_EPERM, NBD_EINVAL, NBD_ENOSPC, NBD_ENOSYS}
-use Rattle.wire.specs.Table.{fault, fault_of, first_fault, read_only}
+use Rattle.wire.specs.Table.{fault, number_of, first_fault, read_only}
 use Rattle.wire.specs.declared.table.Export.{Export}
 use Rattle.server.specs.Session.{Handshake, Greeting, ClientFlags, OptionHead, Naming, Passing, Listing, Declining, Aborting, Exporting, reply_length}
 use Rattle.server.specs.Session.{Transmission, Header, Storing, Dropping, Replying, Sending, State, Shaking, Serving, Over}
@@ -101,7 +101,7 @@ refusal t n s = pick (in_range s) (loan_fault t n (view s)) 27
 
 -- ---- 01's numbers
 abbrev pub number : Refusal → ℕ
-number (Table fault) = fault_of fault
+number (Table fault) = number_of fault
 number Window = 26
 number OutOfRange = 27
 number OutputOwed = 28

@@ -26,7 +26,7 @@ use crate::request;
 use crate::state::{Handshake, Phase, Server, Transmission};
 use machine::parts;
 use machine::tests::within;
-use wire::table::{Checked, Export};
+use wire::table::Export;
 use wire::{consts, table};
 
 // ---- the phases
@@ -193,10 +193,7 @@ fn sound(table: &[u8], n: usize) -> Result<(), Refusal>
     ensures number { refusal_of result ≡ fault n table.now }
     ensures refuses { OnErr result (0 < fault n table.now) }
 {
-    match table::check(table, n) {
-        Checked::Sound => Ok(()),
-        c => Err(Refusal::Table(c)),
-    }
+    table::check(table, n).map_err(Refusal::Table)
 }
 
 // What is wrong with what is lent, if anything is.

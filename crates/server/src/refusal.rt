@@ -2,12 +2,12 @@
 ghost use Rattle.std.specs.Prelude.{◌≡◌};
 ghost use Rattle.server.specs.Ranges.{number};
 
-use wire::table::Checked;
+use wire::table::Fault;
 
 #[derive(Clone, Copy)]
 pub enum Refusal {
     // the table's first fault
-    Table(Checked),
+    Table(Fault),
     // the export's window does not lie in the image
     Window,
     // a state outside its ranges

@@ -62,7 +62,8 @@ pub struct Records<'a> {
 impl<'a> Records<'a> {
     // The records of a table, up to the first place where none stands.
     pub fn of(table: &'a [u8]) -> Records<'a>
-        ensures { due result ≡ records table.now }
+        ensures all { due result ≡ records table.now }
+        ensures few { length (due result) ≤ 32 }
     {
         Records {
             bytes: table.get(1..).unwrap_or(&[]),

@@ -9,7 +9,7 @@ use Rattle.wire.proofs.lookup.started.Goals as goal
 pub loop-e-init : goal.loop-e-init
 loop-e-init c =
     let a = c.args in
-    let due_all = ap due c.into_iter-e-iterator.ensures.into_iter_gives ∙ c.of-e-items.ensures in
+    let due_all = ap due c.into_iter-e-iterator.ensures.into_iter_gives ∙ c.of-e-items.ensures.all in
     rw (due_all, c.new-s.ensures) (sieve_start (long a.len) (records a.table.now) 0xFFFFFFFF (records_few a.table.now))
 
 pub pass-s-requires : goal.pass-s-requires
