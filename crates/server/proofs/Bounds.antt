@@ -48,9 +48,6 @@ exporting_bounds flags n left e = between_true 1 n left (both_right (ltb flags 1
 pub storing_bounds : (e : Export) (off left : ℕ) → both (not (read_only e.flags)) (part e off left) ≡ true → (0 < left) × (off + left ≤ e.size)
 storing_bounds e off left h = some_within off left e.size (both_right (not (read_only e.flags)) (part e off left) h)
 
-pub dropping_some : (error refused left : ℕ) → both (eqb error refused) (ltb 0 left) ≡ true → 0 < left
-dropping_some error refused left h = ltb-true 0 left (both_right (eqb error refused) (ltb 0 left) h)
-
 pub replying_bounds : (e : Export) (error left off len : ℕ) → both (between 1 16 left) (behind e error off len) ≡ true → (0 < left) × (left ≤ 16)
 replying_bounds e error left off len h = between_true 1 16 left (both_left (between 1 16 left) (behind e error off len) h)
 

@@ -1,14 +1,13 @@
 -- What the phases of the handshake owe, given as far as the room goes.
 --   option_owed, exported_owed   the replies whose bytes the code has in another form
---   owed_fits                    the reply is within the code's array
 --   owed_within                  no more is owed than the reply has
 --   owed_emits                   the bytes that are given are moves of the machine
 use Prim.Native.Nat.{ℕ, ◌-◌, ◌≤◌}
-use mathlib.Core.Path.{◌≡◌, refl, sym, ap, ◌∙◌}
+use mathlib.Core.Path.{◌≡◌, refl, sym, ◌∙◌}
 use mathlib.Core.Bool.{Bool, true, false}
 use mathlib.Core.List.{List, []}
 use native.Mathlib.Omega.{arith}
-use lib.ListN.{length, take, length-take}
+use lib.ListN.{length, take}
 use Rattle.machine.specs.Machine.{on, owes}
 use Rattle.machine.specs.Inner.{Given}
 use Rattle.machine.specs.Pieces.{Emits}
@@ -30,9 +29,6 @@ option_owed option type left e = record { all = sym (length_option option type);
 pub exported_owed : (z : Bool) (e : Export) (left : ℕ) {all : ℕ} {made : List ℕ} → all ≡ reply_length z → made ≡ exported true e
     → Owes (exported z e) left made all left
 exported_owed z e left p q = record { all = p ∙ sym (length_exported z e); front = rw (p, q) (exported_part z e); still = refl }
-
-pub owed_fits : {l bytes : List ℕ} {n len left : ℕ} → Owes l n bytes len left → len ≤ length bytes
-owed_fits {bytes = bytes} {len = len} o = omega (arith, length-take len bytes, ap length o.front, o.all)
 
 pub owed_within : (p : Handshake) → ranged_shaking p ≡ true → left_of p ≤ length (reply_of p)
 owed_within (Greeting left) h = rw length_greeting (between_true 1 18 left h).1

@@ -5,16 +5,16 @@
 use Prim.Native.Nat.{ℕ, suc, ◌-◌, ◌≤◌, ◌<◌}
 use mathlib.Core.Path.{◌≡◌, refl, ap, ◌∙◌}
 use mathlib.Core.Bool.{Bool, true, false}
-use mathlib.Core.List.{List, [], ◌++◌}
+use mathlib.Core.List.{List, []}
 use native.Mathlib.Omega.{arith}
 use lib.ListN.{length, get_or, take, drop}
-use lib.Seq.{paste, take_all}
+use lib.Seq.{paste}
 use Rattle.machine.specs.Machine.{on, gives}
 use Rattle.machine.specs.Pieces.{Emits}
 use Rattle.machine.proofs.Families.{Sends, Drops}
 use Rattle.machine.proofs.Leaves.{send_leaf}
 use Rattle.wire.specs.Fields.{be}
-use Rattle.wire.specs.Layouts.{greeting, option_reply, option_reply_head, export_reply, oldstyle_header, simple_reply}
+use Rattle.wire.specs.Layouts.{greeting, option_reply, option_reply_head, export_reply, simple_reply}
 use Rattle.wire.specs.declared.table.Export.{Export}
 use Rattle.server.specs.Session.{State, sending, dropping, passing, list_replies, exported, reply_length, window, turn}
 use Rattle.machine.specs.Parts.{owing}
@@ -75,13 +75,3 @@ pub exported_part : (z : Bool) (e : Export) → take (reply_length z) (exported 
 unfolding export_reply be
 exported_part true e = refl
 exported_part false e = refl
-
--- ---- the old-style header over the front of a room
-length_oldstyle : (size flags : ℕ) → length (oldstyle_header size flags) ≡ 152
-unfolding oldstyle_header be
-length_oldstyle size flags = refl
-
-pub old_pasted : (size flags : ℕ) (room : List ℕ) {bytes : List ℕ} → bytes ≡ oldstyle_header size flags
-    → paste room 0 (drop 0 bytes) 152 ≡ oldstyle_header size flags ++ drop 152 room
-old_pasted size flags room e =
-    rw (e, take_all 152 (oldstyle_header size flags) (omega (arith, length_oldstyle size flags)))

@@ -7,8 +7,9 @@ ghost use Rattle.server.specs.Ranges.{ranged_shaking};
 ghost use Rattle.server.specs.Contract.{owes_output};
 ghost use Rattle.server.specs.Inner.{reply_of, left_of, with_left, Owes, Absorbed, Emitted};
 
-use crate::state::{Declining, Exporting, Gave, Handshake, Phase, Server, Took};
-use crate::{options, ranges};
+use crate::state::{Declining, Exporting, Handshake, Phase, Server};
+use crate::{heads, options, ranges};
+use machine::ends::{Gave, Took};
 use machine::parts;
 use wire::{consts, fields};
 
@@ -68,22 +69,16 @@ fn greeting() -> [u8; 134]
 
 // ---- one leaf for the phase that takes
 
-fn take_flags(head: [u8; 28], have: usize, input: &[u8]) -> Took
+fn take_flags(head: [u8; 28], have: usize, input: &[u8]) -> Took<Server>
     requires { (have < 4) × (0 < length input.now) }
     ensures { (t m : List ℕ) → Absorbed t (Shaking (ClientFlags (take have head))) m input.now result m }
 {
-    let mut bytes = head;
-    let n = parts::gather(&mut bytes, have, 4, input);
-    let phase = judge_flags(bytes, have + n);
-    Took {
-        state: Server { phase, head: bytes },
-        taken: n,
-    }
+    heads::take(head, have, 4, input, judge_flags)
 }
 
 // ---- what each phase owes, and where it goes
 
-// A reply: the first `len` of these bytes, and its last `left` bytes are owed.
+// A reply: the first `len` of these bytes, and its last `left` bytes are owed. There is no heap: the array has room for the longest reply.
 #[derive(Clone, Copy)]
 pub struct Reply {
     pub bytes: [u8; 134],
@@ -159,7 +154,7 @@ pub fn owes(p: Handshake) -> bool
 // ---- the phases put together
 
 // Takes what the phase takes of the input.
-pub fn absorb(head: [u8; 28], p: Handshake, table: &[u8], input: &[u8]) -> Took
+pub fn absorb(head: [u8; 28], p: Handshake, table: &[u8], input: &[u8]) -> Took<Server>
     requires { (0 < length input.now) × (ranged_shaking (handshake_of head p) ≡ true) }
     ensures { (m : List ℕ) → Absorbed table.now (Shaking (handshake_of head p)) m input.now result m }
 {
@@ -178,13 +173,12 @@ pub fn absorb(head: [u8; 28], p: Handshake, table: &[u8], input: &[u8]) -> Took
 }
 
 // Gives what the phase owes into the room.
-pub fn emit(head: [u8; 28], p: Handshake, room: &mut [u8]) -> Gave
+pub fn emit(head: [u8; 28], p: Handshake, room: &mut [u8]) -> Gave<Server>
     requires { ranged_shaking (handshake_of head p) ≡ true }
     ensures { (t m : List ℕ) → Emitted t (Shaking (handshake_of head p)) m room.old result room.new }
 {
     let owed = owed(p);
-    let bytes = owed.bytes;
-    let n = parts::give(&bytes[..owed.len], owed.left, room);
+    let n = parts::give(&owed.bytes[..owed.len], owed.left, room);
     let phase = with_left(p, owed.left - n);
     Gave {
         state: Server { phase, head },

@@ -2,6 +2,7 @@
 #![tactic(auto)]
 
 mod handshake;
+mod heads;
 pub mod oldstyle;
 mod options;
 mod ranges;

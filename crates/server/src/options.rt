@@ -21,11 +21,10 @@ ghost use Rattle.server.specs.Session.{
 ghost use Rattle.server.specs.View.{view_of, handshake_of};
 ghost use Rattle.server.specs.Inner.{option_until, Absorbed};
 
-use crate::ranges;
-use crate::state::{
-    Declining, Exporting, Handshake, Naming, Passing, Phase, Server, Took, Transmission,
-};
-use machine::{copy, parts};
+use crate::state::{Declining, Exporting, Handshake, Naming, Passing, Phase, Server, Transmission};
+use crate::{heads, ranges};
+use machine::copy;
+use machine::ends::Took;
 use wire::table::Export;
 use wire::utf8::Utf8;
 use wire::{consts, fields, lookup, table};
@@ -115,7 +114,7 @@ impl Passing {
     }
 
     // Takes of `count` bytes as many as are left.
-    pub(crate) fn take(self, head: [u8; 28], count: usize) -> Took
+    pub(crate) fn take(self, head: [u8; 28], count: usize) -> Took<Server>
         requires { 0 < self.left }
         ensures { (t m input : List ℕ) → length input ≡ count → Absorbed t (Shaking (handshake_of head (Handshake.Passing self))) m input result m }
     {
@@ -160,7 +159,7 @@ impl Naming {
     }
 
     // Takes of the input as many bytes as are left.
-    pub(crate) fn take(self, head: [u8; 28], table: &[u8], input: &[u8]) -> Took
+    pub(crate) fn take(self, head: [u8; 28], table: &[u8], input: &[u8]) -> Took<Server>
         requires { (0 < self.left) × (self.at + self.left ≤ 100000) }
         ensures { (m : List ℕ) → Absorbed table.now (Shaking (handshake_of head (Handshake.Naming self))) m input.now result m }
     {
@@ -275,15 +274,24 @@ pub fn export_reply(export: Export) -> [u8; 134]
 
 // ---- one leaf for the phase that takes a head
 
-pub fn take_option(head: [u8; 28], zeroes: bool, have: usize, table: &[u8], input: &[u8]) -> Took
+pub fn take_option(
+    head: [u8; 28],
+    zeroes: bool,
+    have: usize,
+    table: &[u8],
+    input: &[u8],
+) -> Took<Server>
     requires { (have < 16) × (0 < length input.now) }
     ensures { (m : List ℕ) → Absorbed table.now (Shaking (OptionHead zeroes (take have head))) m input.now result m }
 {
-    let mut bytes = head;
-    let n = parts::gather(&mut bytes, have, until(have), input);
-    let phase = judge_option(zeroes, table, bytes, have + n);
-    Took {
-        state: Server { phase, head: bytes },
-        taken: n,
-    }
+    heads::take(
+        head,
+        have,
+        until(have),
+        input,
+        |bytes, k|
+            requires { k ≤ 16 }
+            ensures { view_of bytes result ≡ judge_option zeroes table.entry.now (take k bytes) }
+        { judge_option(zeroes, table, bytes, k) },
+    )
 }

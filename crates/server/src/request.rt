@@ -31,14 +31,16 @@ pub enum Answer {
 }
 
 // The fields of a request's 28 bytes.
-pub fn request_of(head: &[u8; 28]) -> Request
-    ensures { result ≡ request_of head.now }
-{
-    Request {
-        typ: fields::read_u16(head, 6),
-        handle: fields::read_u64(head, 8),
-        offset: fields::read_u64(head, 16),
-        len: fields::read_u32(head, 24),
+impl From<&[u8; 28]> for Request {
+    ghost from_gives = { λ head r. r ≡ request_of head.now };
+
+    fn from(head: &[u8; 28]) -> Request {
+        Request {
+            typ: fields::read_u16(head, 6),
+            handle: fields::read_u64(head, 8),
+            offset: fields::read_u64(head, 16),
+            len: fields::read_u32(head, 24),
+        }
     }
 }
 
@@ -48,49 +50,53 @@ pub fn read_only(e: Export) -> bool
     e.flags % 2 == 1
 }
 
-// Whether a request passes the window's end, as whole numbers.
-fn past(e: Export, r: Request) -> bool
-    ensures { result ≡ past e r }
-{
-    !within(r.offset as usize, r.len as usize, e.size as usize)
-}
-
-fn owed_read(e: Export, r: Request) -> Answer
-    ensures { result ≡ owed_read e r }
-{
-    if r.len == 0 {
-        Answer::Silence
-    } else if past(e, r) {
-        Answer::Reply(consts::NBD_EINVAL)
-    } else {
-        Answer::Data
+impl Request {
+    // Whether it passes the window's end, as whole numbers.
+    fn past(self, e: Export) -> bool
+        ensures { result ≡ past e self }
+    {
+        !within(self.offset as usize, self.len as usize, e.size as usize)
     }
-}
 
-fn owed_write(e: Export, r: Request) -> Answer
-    ensures { result ≡ owed_write e r }
-{
-    if read_only(e) {
-        Answer::Swallow(consts::NBD_EPERM)
-    } else if r.len == 0 {
-        Answer::Reply(0)
-    } else if past(e, r) {
-        Answer::Swallow(consts::NBD_ENOSPC)
-    } else {
-        Answer::Store
+    fn owed_read(self, e: Export) -> Answer
+        ensures { result ≡ owed_read e self }
+    {
+        if self.len == 0 {
+            Answer::Silence
+        } else if self.past(e) {
+            Answer::Reply(consts::NBD_EINVAL)
+        } else {
+            Answer::Data
+        }
     }
-}
 
-#[tactic(auto, unfolding(crate::specs::Request::owed))]
-pub fn owed(e: Export, r: Request) -> Answer
-    ensures { result ≡ owed e r }
-{
-    match r.typ {
-        consts::NBD_CMD_READ => owed_read(e, r),
-        consts::NBD_CMD_WRITE => owed_write(e, r),
-        consts::NBD_CMD_DISC => Answer::End(0),
-        consts::NBD_CMD_FLUSH => Answer::Reply(0),
-        consts::NBD_CMD_TRIM | consts::NBD_CMD_WRITE_ZEROES => Answer::Reply(consts::NBD_ENOSYS),
-        _ => Answer::End(11),
+    fn owed_write(self, e: Export) -> Answer
+        ensures { result ≡ owed_write e self }
+    {
+        if read_only(e) {
+            Answer::Swallow(consts::NBD_EPERM)
+        } else if self.len == 0 {
+            Answer::Reply(0)
+        } else if self.past(e) {
+            Answer::Swallow(consts::NBD_ENOSPC)
+        } else {
+            Answer::Store
+        }
+    }
+
+    #[tactic(auto, unfolding(crate::specs::Request::owed))]
+    pub fn owed(self, e: Export) -> Answer
+        ensures { result ≡ owed e self }
+    {
+        match self.typ {
+            consts::NBD_CMD_READ => self.owed_read(e),
+            consts::NBD_CMD_WRITE => self.owed_write(e),
+            consts::NBD_CMD_DISC => Answer::End(0),
+            consts::NBD_CMD_FLUSH => Answer::Reply(0),
+            consts::NBD_CMD_TRIM | consts::NBD_CMD_WRITE_ZEROES => Answer::Reply(
+                consts::NBD_ENOSYS,
+            ),
+            _ => Answer::End(11),
+        }
     }
 }

@@ -1,5 +1,5 @@
-// Where a session stands. The phases are named as in specs/Session.antt; docs/STATES.md has their ranges.
-use machine::ends;
+// Where a session stands. The phases are named as in specs/Session.antt; docs/STATES.md has their ranges. A host may hand in any values, which a call
+// then refuses (ranges.rt): so no type here keeps a range, and errors and the number of an end are plain numbers.
 use wire::table::Export;
 use wire::utf8::Utf8;
 
@@ -108,7 +108,7 @@ pub enum Phase {
     Over(u8),
 }
 
-// The bytes of `head` that the phase does not use are 0.
+// The bytes of `head` that the phase does not use are 0. They stand in an array, as the memory of a session is fixed: there is no heap.
 #[derive(Clone, Copy)]
 pub struct Server {
     pub phase: Phase,
@@ -125,9 +125,3 @@ pub enum Outcome {
     // with 01's number; nothing has changed
     Refused(u8),
 }
-
-// ---- what the parts of a step answer
-
-pub type Took = ends::Took<Server>;
-
-pub type Gave = ends::Gave<Server>;

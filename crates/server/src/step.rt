@@ -5,9 +5,9 @@ ghost use Rattle.server.specs.View.{view, code, used};
 ghost use Rattle.server.specs.Inner.{Good};
 ghost use Rattle.server.specs.Contract.{outcome_of};
 
-use crate::state::{Gave, Outcome, Phase, Server, Took};
+use crate::state::{Outcome, Phase, Server};
 use crate::{handshake, ranges, transmission};
-use machine::ends::End;
+use machine::ends::{End, Gave, Took};
 
 impl End for Server {
     ghost Place = { State };
@@ -19,7 +19,7 @@ impl End for Server {
     ghost Good = { Good };
 
     // What is lent to be read is the table, and the rest the image.
-    fn absorb(self, input: &[u8], table: &[u8], image: &mut [u8]) -> Took {
+    fn absorb(self, input: &[u8], table: &[u8], image: &mut [u8]) -> Took<Server> {
         if input.len() == 0 {
             return Took::none(self);
         }
@@ -30,7 +30,7 @@ impl End for Server {
         }
     }
 
-    fn emit(self, room: &mut [u8], _table: &[u8], image: &[u8]) -> Gave {
+    fn emit(self, room: &mut [u8], _table: &[u8], image: &[u8]) -> Gave<Server> {
         match self.phase {
             Phase::Shaking(h) => handshake::emit(self.head, h, room),
             Phase::Serving(e, t) => transmission::emit(self.head, e, t, room, image),

@@ -16,9 +16,10 @@ ghost use Rattle.server.specs.Ranges.{ranged_serving};
 ghost use Rattle.server.specs.Contract.{owes_output};
 ghost use Rattle.server.specs.Inner.{request_until, Stored, Sent, Absorbed, Emitted};
 
-use crate::request;
+use crate::heads;
 use crate::request::{Answer, Request};
-use crate::state::{Dropping, Gave, Phase, Replying, Sending, Server, Storing, Took, Transmission};
+use crate::state::{Dropping, Phase, Replying, Sending, Server, Storing, Transmission};
+use machine::ends::{Gave, Took};
 use machine::parts;
 use wire::table::Export;
 use wire::{consts, fields};
@@ -36,7 +37,7 @@ impl Sending {
         }
     }
 
-    fn give(self, head: [u8; 28], e: Export, window: &[u8], room: &mut [u8]) -> Gave
+    fn give(self, head: [u8; 28], e: Export, window: &[u8], room: &mut [u8]) -> Gave<Server>
         requires { (0 < self.left) × (self.off + self.left ≤ length window.now) }
         ensures { Sent e self.off self.left window.now room.old result.given (view result.state) room.new }
     {
@@ -92,7 +93,7 @@ impl Replying {
         }
     }
 
-    fn give(self, head: [u8; 28], e: Export, room: &mut [u8]) -> Gave
+    fn give(self, head: [u8; 28], e: Export, room: &mut [u8]) -> Gave<Server>
         requires { (0 < self.left) × (self.left ≤ 16) }
         ensures { (t m : List ℕ) → Emitted t (Serving e (transmission_of head (Transmission.Replying self))) m room.old result room.new }
     {
@@ -121,7 +122,7 @@ impl Storing {
     }
 
     // Takes of the input as many bytes as are left.
-    fn take(self, head: [u8; 28], e: Export, input: &[u8], window: &mut [u8]) -> Took
+    fn take(self, head: [u8; 28], e: Export, input: &[u8], window: &mut [u8]) -> Took<Server>
         requires { (0 < self.left) × (self.off + self.left ≤ length window.old) }
         ensures { Stored e self.handle self.off self.left input.now window.old result.taken (view result.state) window.new }
     {
@@ -149,7 +150,7 @@ impl Dropping {
     }
 
     // Takes of `count` bytes as many as are left.
-    fn take(self, head: [u8; 28], e: Export, count: usize) -> Took
+    fn take(self, head: [u8; 28], e: Export, count: usize) -> Took<Server>
         requires { 0 < self.left }
         ensures { (t m input : List ℕ) → length input ≡ count → Absorbed t (Serving e (transmission_of head (Transmission.Dropping self))) m input result m }
     {
@@ -218,22 +219,24 @@ fn requested(e: Export, head: [u8; 28], k: usize) -> Phase
     if k < 28 {
         return Phase::Serving(e, Transmission::Header { have: k });
     }
-    let r = request::request_of(&head);
-    let o = request::owed(e, r);
-    begun(e, r, o)
+    let r = Request::from(&head);
+    begun(e, r, r.owed(e))
 }
 
-fn take_header(head: [u8; 28], e: Export, have: usize, input: &[u8]) -> Took
+fn take_header(head: [u8; 28], e: Export, have: usize, input: &[u8]) -> Took<Server>
     requires { (have < 28) × (0 < length input.now) }
     ensures { (t m : List ℕ) → Absorbed t (Serving e (Header (take have head))) m input.now result m }
 {
-    let mut bytes = head;
-    let n = parts::gather(&mut bytes, have, until(have), input);
-    let phase = requested(e, bytes, have + n);
-    Took {
-        state: Server { phase, head: bytes },
-        taken: n,
-    }
+    heads::take(
+        head,
+        have,
+        until(have),
+        input,
+        |bytes, k|
+            requires { k ≤ 28 }
+            ensures { view_of bytes result ≡ requested e (take k bytes) }
+        { requested(e, bytes, k) },
+    )
 }
 
 // Whether output is owed.
@@ -246,7 +249,13 @@ pub fn owes(p: Transmission) -> bool
 // ---- the phases put together
 
 // Takes what the phase takes of the input.
-pub fn absorb(head: [u8; 28], e: Export, p: Transmission, input: &[u8], image: &mut [u8]) -> Took
+pub fn absorb(
+    head: [u8; 28],
+    e: Export,
+    p: Transmission,
+    input: &[u8],
+    image: &mut [u8],
+) -> Took<Server>
     requires { (0 < length input.now) × (ranged_serving e (transmission_of head p) ≡ true) × (e.start + e.size ≤ length image.old) }
     ensures { (t : List ℕ) → Absorbed t (Serving e (transmission_of head p)) image.old input.now result image.new }
 {
@@ -266,7 +275,13 @@ pub fn absorb(head: [u8; 28], e: Export, p: Transmission, input: &[u8], image: &
 }
 
 // Gives what the phase owes into the room.
-pub fn emit(head: [u8; 28], e: Export, p: Transmission, room: &mut [u8], image: &[u8]) -> Gave
+pub fn emit(
+    head: [u8; 28],
+    e: Export,
+    p: Transmission,
+    room: &mut [u8],
+    image: &[u8],
+) -> Gave<Server>
     requires { (ranged_serving e (transmission_of head p) ≡ true) × (e.start + e.size ≤ length image.now) }
     ensures { (t : List ℕ) → Emitted t (Serving e (transmission_of head p)) image.now room.old result room.new }
 {

@@ -4,4 +4,4 @@ use Rattle.server.proofs.Header.{flags_leaf}
 use Rattle.server.proofs.handshake.take_flags.Goals as goal
 
 pub returns : goal.returns
-returns c = λ t m. flags_leaf t (search rules) c.requires.0 c.requires.1 c.gather-n.ensures c.judge_flags-phase.ensures
+returns c = λ t m. flags_leaf t (search rules) c.requires.0 c.requires.1 c.take.ensures.gathers (let j = c.take.ensures.judged in j.1)

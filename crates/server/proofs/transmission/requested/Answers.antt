@@ -14,4 +14,4 @@ pub returns-then-k-lt28 : goal.returns-then-k-lt28
 returns-then-k-lt28 c = request_part _ _ _ (search rules) c.if-k-eq4.false c.if-k-lt28.true
 
 pub returns : goal.returns
-returns c = c.begun.ensures _ ∙ rw (c.owed-o.ensures, c.request_of-r.ensures) (request_whole _ _ _ (search rules) c.if-k-lt28.false)
+returns c = c.begun.ensures _ ∙ rw (c.owed.ensures, c.from-r.ensures) (request_whole _ _ _ (search rules) c.if-k-lt28.false)
