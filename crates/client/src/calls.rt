@@ -101,6 +101,7 @@ fn offset_of(d: Device, c: Call) -> u64
 }
 
 // A request; its flags and its handle are 0.
+#[tactic(auto, unfolding(wire::specs::Layouts::request, wire::specs::Fields::be))]
 pub fn request_bytes(d: Device, c: Call) -> [u8; 28]
     ensures { result ≡ request_bytes d c }
 {

@@ -25,9 +25,10 @@ ghost use Rattle.client.specs.Session.{
 ghost use Rattle.client.specs.View.{view_of, filler_of, handshake_of};
 ghost use Rattle.client.specs.Inner.{Some, GoodShaking, Absorbed, Emitted};
 
+use crate::ending::Ending;
 use crate::state::{Client, Device, Fields, Filler, Handshake, Outcome, Phase, Value};
 use machine::ends::{Gave, Took};
-use machine::{copy, parts};
+use machine::parts;
 use wire::{consts, fields};
 
 // ---- the flags
@@ -52,7 +53,7 @@ fn fields_of(flags: u16) -> Fields
     }
 }
 
-// ---- the phases that follow where nothing may be left
+// ---- the phases that follow where nothing may be left. Each is one test: a closure for what follows would say no less.
 
 fn naming(name: usize, left: usize) -> Phase
     ensures { (h : List ℕ) → view_of h result ≡ naming name left }
@@ -103,7 +104,7 @@ fn judged(size: u64, flags: u16, clean: bool) -> Phase
         };
         Phase::Closed(Outcome::Succeeded(Value::Opened(size, fields)), device)
     } else {
-        Phase::Over(43)
+        Phase::Over(Ending::Filler as u8)
     }
 }
 
@@ -130,7 +131,7 @@ fn judge_magic(name: usize, head: [u8; 16], k: usize) -> Phase
     if fields::same_bytes(&head, 0, &consts::NBDMAGIC) {
         Phase::Shaking(name, Handshake::Style { have: 0 })
     } else {
-        Phase::Over(40)
+        Phase::Over(Ending::NoServer as u8)
     }
 }
 
@@ -140,7 +141,7 @@ fn oldstyle(name: usize) -> Phase
     if name == 0 {
         Phase::Shaking(name, Handshake::SizeAndFlags { old: true, have: 0 })
     } else {
-        Phase::Over(42)
+        Phase::Over(Ending::OldStyleName as u8)
     }
 }
 
@@ -158,7 +159,7 @@ fn judge_style(name: usize, head: [u8; 16], k: usize) -> Phase
     if fields::same_bytes(&head, 0, &consts::OLDSTYLE) {
         oldstyle(name)
     } else {
-        Phase::Over(41)
+        Phase::Over(Ending::UnknownStyle as u8)
     }
 }
 
@@ -201,12 +202,13 @@ fn judge_size_and_flags(name: usize, old: bool, head: [u8; 16], k: usize) -> Pha
 // ---- what is sent
 
 // What stands before a name of n bytes.
+#[tactic(auto, unfolding(crate::specs::Session::hello, wire::specs::Fields::be))]
 fn hello(n: u32) -> [u8; 20]
     ensures { result ≡ hello n }
 {
     let mut bytes = [0u8; 20];
     fields::write_u32(&mut bytes, 0, consts::NBD_FLAG_C_FIXED_NEWSTYLE);
-    copy::copy_part(&consts::IHAVEOPT, 0, &mut bytes, 4, 8);
+    bytes[4..12].copy_from_slice(&consts::IHAVEOPT);
     fields::write_u32(&mut bytes, 12, consts::NBD_OPT_EXPORT_NAME);
     fields::write_u32(&mut bytes, 16, n);
     bytes
@@ -214,6 +216,8 @@ fn hello(n: u32) -> [u8; 20]
 
 // ---- one leaf for each phase
 
+// As the next, `take_size_and_flags` and a reply's `hear`. One function over the judge as a closure would be no shorter: each closure would have to
+// state its judge's contract again.
 fn take_magic(head: [u8; 16], name: usize, have: usize, input: &[u8]) -> Took<Client>
     requires { have < 8 }
     ensures { (m : List ℕ) → Absorbed (Shaking name (Magic (take have head))) m input.now result m }

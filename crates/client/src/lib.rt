@@ -2,6 +2,7 @@
 #![tactic(auto)]
 
 mod calls;
+mod ending;
 mod handshake;
 mod ranges;
 mod refusal;
@@ -9,16 +10,18 @@ pub mod state;
 mod step;
 mod transmission;
 
-ghost use Rattle.std.specs.Prelude.{◌≡◌, length};
-ghost use Rattle.client.specs.Session.{Blank, Ready, Over};
+ghost use Rattle.std.specs.Prelude.{◌≡◌, List, ℕ, length, replicate};
+ghost use Rattle.client.specs.Session.{Blank, Ready};
 ghost use Rattle.client.specs.Ranges.{number};
 ghost use Rattle.client.specs.Contract.{
   fresh,
   answer,
   refused,
   call_check,
+  called,
   opened,
   granted,
+  moving,
   begun,
   reading,
   writing,
@@ -32,8 +35,12 @@ ghost use Rattle.client.specs.Contract.{
   known,
   Drives,
 };
+ghost use Rattle.client.specs.declared.state.Device.{Device};
+ghost use Rattle.client.specs.declared.Called.{Called};
 ghost use Rattle.client.specs.declared.state.Outcome.TheVariants as outcome;
+ghost use Rattle.client.specs.declared.state.Call.TheVariants as calls;
 
+use ending::Ending;
 use machine::ends;
 use refusal::Refusal;
 use state::{Call, Client, Device, Handshake, Outcome, Phase, Progress, SeekFrom, Value};
@@ -75,10 +82,7 @@ fn ready(d: Device, value: Value) -> Called
     ensures { result ≡ answer (Ready d) (outcome.Succeeded value) }
 {
     Called {
-        state: Client {
-            phase: Phase::Ready(d),
-            head: [0u8; 16],
-        },
+        state: Client::at(Phase::Ready(d)),
         outcome: Outcome::Succeeded(value),
     }
 }
@@ -88,10 +92,7 @@ fn opened(d: Device, c: Call) -> Called
     ensures { result ≡ opened d c }
 {
     Called {
-        state: Client {
-            phase: Phase::Calling(d, c, Progress::Asking { left: 28 }),
-            head: [0u8; 16],
-        },
+        state: Client::at(Phase::Calling(d, c, Progress::Asking { left: 28 })),
         outcome: Outcome::Open,
     }
 }
@@ -101,35 +102,28 @@ fn begun(d: Device, c: Call) -> Called
     ensures { result ≡ begun d c }
 {
     if calls::amount(c) == 0 {
-        let value = calls::value_of(c);
-        ready(d, value)
+        ready(d, calls::value_of(c))
     } else {
         opened(d, c)
     }
 }
 
-// The end of input, where the session has not ended.
-fn ended() -> Called
-    ensures { result ≡ answer (Over 50) (outcome.Ended 50) }
-{
-    Called {
-        state: Client {
-            phase: Phase::Over(50),
-            head: [0u8; 16],
-        },
-        outcome: Outcome::Ended(50),
-    }
-}
-
 impl Client {
+    // At a phase that uses no byte of `head`.
+    fn at(phase: Phase) -> Client
+        ensures { result ≡ record { phase = phase; head = replicate 16 0 } }
+    {
+        Client {
+            phase,
+            head: [0u8; 16],
+        }
+    }
+
     // A client before its handshake.
     pub fn new() -> Client
         ensures { result ≡ fresh }
     {
-        Client {
-            phase: Phase::Blank,
-            head: [0u8; 16],
-        }
+        Client::at(Phase::Blank)
     }
 
     // ---- calls
@@ -144,6 +138,28 @@ impl Client {
         match self.phase {
             Phase::Ready(d) => Ok(d),
             _ => Err(Refusal::NotNow),
+        }
+    }
+
+    // A call on the device, if one may be made.
+    fn called<F: FnOnce(Device) -> Called>(self, call: F) -> Called
+        requires { F.IsAlwaysCallable call }
+        ensures { (f : Device → Called) → ((d : Device) (r : Called) → F.post call d r → r ≡ f d) → result ≡ called self f (call_check self) }
+    {
+        match self.call_check() {
+            Ok(d) => call(d),
+            Err(why) => refused(self, why),
+        }
+    }
+
+    // A call that moves bytes, if it may: `call` makes it of as many as it moves, where it is asked to move k.
+    fn moving<F: FnOnce(u32) -> Call>(self, k: u64, call: F) -> Called
+        requires { F.IsAlwaysCallable call }
+        ensures { (f : ℕ → calls.the_data) → ((n : ℕ) (c : calls.the_data) → F.post call n c → c ≡ f n) → result ≡ moving self f (granted k self) }
+    {
+        match self.granted(k) {
+            Ok(t) => begun(t.device, call(t.n)),
+            Err(why) => refused(self, why),
         }
     }
 
@@ -162,10 +178,7 @@ impl Client {
     {
         if n <= 4096 {
             Called {
-                state: Client {
-                    phase: Phase::Shaking(n, Handshake::Magic { have: 0 }),
-                    head: [0u8; 16],
-                },
+                state: Client::at(Phase::Shaking(n, Handshake::Magic { have: 0 })),
                 outcome: Outcome::Open,
             }
         } else {
@@ -191,10 +204,7 @@ impl Client {
         ensures { result ≡ reading (length buffer.now) self }
     {
         let len = buffer.len();
-        match self.granted(len as u64) {
-            Ok(Transfer { device, n }) => begun(device, Call::Read { n, len }),
-            Err(why) => refused(self, why),
-        }
+        self.moving(len as u64, |n| Call::Read { n, len })
     }
 
     // Opens a write of the buffer, which is lent at each step until it is closed.
@@ -202,49 +212,34 @@ impl Client {
         ensures { result ≡ writing (length buffer.now) self }
     {
         let len = buffer.len();
-        match self.granted(len as u64) {
-            Ok(Transfer { device, n }) => begun(device, Call::Write { n, len }),
-            Err(why) => refused(self, why),
-        }
+        self.moving(len as u64, |n| Call::Write { n, len })
     }
 
     pub fn trim(self, length: u64) -> Called
         ensures { result ≡ trimming length self }
     {
-        match self.granted(length) {
-            Ok(Transfer { device, n }) => begun(device, Call::Trim { n }),
-            Err(why) => refused(self, why),
-        }
+        self.moving(length, |n| Call::Trim { n })
     }
 
     pub fn flush(self) -> Called
         ensures { result ≡ flushing self }
     {
-        match self.call_check() {
-            Ok(d) => opened(d, Call::Flush),
-            Err(why) => refused(self, why),
-        }
+        self.called(|d| opened(d, Call::Flush))
     }
 
     pub fn resize(self, size: u64) -> Called
         ensures { result ≡ resizing size self }
     {
-        match self.call_check() {
-            Ok(d) => opened(d, Call::Resize { size }),
-            Err(why) => refused(self, why),
-        }
+        self.called(|d| opened(d, Call::Resize { size }))
     }
 
     pub fn seek(self, from: SeekFrom) -> Called
         ensures { result ≡ seeking from self }
     {
-        match self.call_check() {
-            Ok(d) => match calls::sought(d, from) {
-                Some(p) => ready(calls::positioned(d, p), Value::Position(p)),
-                None => refused(self, Refusal::SeekOutside),
-            },
-            Err(why) => refused(self, why),
-        }
+        self.called(|d| match calls::sought(d, from) {
+            Some(p) => ready(calls::positioned(d, p), Value::Position(p)),
+            None => refused(self, Refusal::SeekOutside),
+        })
     }
 
     // The host reports the end of input.
@@ -259,7 +254,10 @@ impl Client {
                 state: self,
                 outcome: Outcome::Ended(n),
             },
-            _ => ended(),
+            _ => Called {
+                state: Client::at(Phase::Over(Ending::InputEnded as u8)),
+                outcome: Outcome::Ended(Ending::InputEnded as u8),
+            },
         }
     }
 

@@ -1,6 +1,6 @@
 // What is refused: a state outside the ranges of docs/STATES.md, and another length of what is lent.
 ghost use Rattle.std.specs.Prelude.{◌≡◌, List, ℕ};
-ghost use Rattle.client.specs.View.{view_of, handshake_of, progress_of, used_shaking, used_calling, used};
+ghost use Rattle.client.specs.View.{view, view_of, handshake_of, progress_of, used_shaking, used_calling, used};
 ghost use Rattle.client.specs.Ranges.{
   ranged_shaking,
   part,
@@ -73,12 +73,12 @@ fn ends(n: u8) -> bool
     matches!(n, 40..=43 | 45..=46 | 50)
 }
 
-fn ranged(head: [u8; 16], p: Phase) -> bool
-    ensures { result ≡ ranged (view_of head p) }
+fn ranged(s: Client) -> bool
+    ensures { result ≡ ranged (view s) }
 {
-    match p {
-        Phase::Shaking(name, h) => name <= 4096 && ranged_shaking(head, name, h),
-        Phase::Calling(d, c, g) => ranged_call(d, c) && ranged_progress(head, c, g),
+    match s.phase {
+        Phase::Shaking(name, h) => name <= 4096 && ranged_shaking(s.head, name, h),
+        Phase::Calling(d, c, g) => ranged_call(d, c) && ranged_progress(s.head, c, g),
         Phase::Over(n) => ends(n),
         Phase::Closed(_, _) => false,
         _ => true,
@@ -122,7 +122,7 @@ pub fn used(p: Phase) -> usize
 pub fn in_range(s: Client) -> bool
     ensures { result ≡ in_range s }
 {
-    parts::blank(&s.head, used(s.phase)) && ranged(s.head, s.phase)
+    parts::blank(&s.head, used(s.phase)) && ranged(s)
 }
 
 // ---- what a step refuses

@@ -111,10 +111,11 @@ pub enum Phase {
     Calling(Device, Call, Progress),
     // only inside a step, at its end: a call or the handshake was just closed
     Closed(Outcome, Device),
+    // with 01's number. A number and no enum, since the host hands states in, and one that ends no session has to be refused
     Over(u8),
 }
 
-// The bytes of `head` that the phase does not use are 0.
+// The bytes of `head` that the phase does not use are 0. An array, and no Vec: hundreds of sessions run in fixed memory.
 #[derive(Clone, Copy)]
 pub struct Client {
     pub phase: Phase,

@@ -19,6 +19,7 @@ ghost use Rattle.client.specs.Ranges.{lent_to, ranged_call};
 ghost use Rattle.client.specs.Inner.{Some, GoodProgress, Absorbed, Emitted};
 
 use crate::calls;
+use crate::ending::Ending;
 use crate::state::{Call, Client, Device, Outcome, Phase, Progress};
 use machine::ends::{Gave, Took};
 use machine::{copy, parts};
@@ -32,9 +33,9 @@ pub struct Exchange {
     ghost within: { ranged_call device call ≡ true },
 }
 
-// ---- the phases that follow where nothing may be left
-
 impl Exchange {
+    // ---- the phases that follow where nothing may be left
+
     fn at(self, progress: Progress) -> Phase
         ensures { (h : List ℕ) → view_of h result ≡ Calling self.device self.call (progress_of h progress) }
     {
@@ -80,12 +81,11 @@ impl Exchange {
             self.at(Progress::Asking { left })
         }
     }
-}
 
-// ---- what is judged
+    // ---- what is judged
 
-impl Exchange {
     // A reply's 16 bytes are there.
+    #[tactic(auto, unfolding(crate::specs::Session::replied))]
     fn replied(self, head: [u8; 16]) -> Phase
         ensures { (h : List ℕ) → view_of h result ≡ replied self.device self.call head }
     {
@@ -93,10 +93,10 @@ impl Exchange {
         let error = fields::read_u32(&head, 4);
         let handle = fields::read_u64(&head, 8);
         if signature != consts::NBD_REPLY_MAGIC {
-            return Phase::Over(45);
+            return Phase::Over(Ending::Signature as u8);
         }
         if handle != 0 {
-            return Phase::Over(46);
+            return Phase::Over(Ending::Handle as u8);
         }
         if error == 0 {
             self.filling(calls::wanted(self.call) as usize)
@@ -116,11 +116,9 @@ impl Exchange {
             self.replied(head)
         }
     }
-}
 
-// ---- one leaf for each phase
+    // ---- one leaf for each phase
 
-impl Exchange {
     fn send_request(self, head: [u8; 16], left: usize, room: &mut [u8]) -> Gave<Client>
         requires { Some 28 left }
         ensures { (m : List ℕ) → Emitted (Calling self.device self.call (Asking left)) m room.old result room.new }
@@ -183,11 +181,9 @@ impl Exchange {
             taken: n,
         }
     }
-}
 
-// ---- the phases put together
+    // ---- the phases put together
 
-impl Exchange {
     // Takes what the phase takes of the input.
     pub fn absorb(self, head: [u8; 16], p: Progress, input: &[u8], lent: &mut [u8]) -> Took<Client>
         requires { (lent_to self.call ≡ length lent.old) × GoodProgress self.call (progress_of head p) }
