@@ -2,16 +2,16 @@
 --   up_outside, up_sum      the sum where the number is not negative
 --   lowest_outside          where it is the lowest
 --   down_outside, down_sum  where it is another negative one
---   sum_some, sum_none      `added`, by the library's sum of the integers, and at the lowest number
-use Rattle.std.specs.Prelude.{◌≡◌, ℕ, suc, ◌+◌, ◌-◌, ◌^◌, ◌≤◌, ◌<◌, ℤ, pos, negsuc, ◌+ℤ◌, unsigned_abs, Option, None, Some}
+--   up_some, down_some, down_none   `added`, by the library's sum, by its difference, and where there is no negation
+use Rattle.std.specs.Prelude.{◌≡◌, ℕ, suc, ◌+◌, ◌-◌, ◌^◌, ◌≤◌, ◌<◌, true, false, ℤ, pos, negsuc, Option, None, Some}
 use Rattle.std.specs.Option.{SomeIff}
-use Rattle.std.specs.Int.{FitsUnsigned}
 use mathlib.Core.Path.{sym}
 use native.Mathlib.Omega.{arith}
-use lib.Dec.{le→leb, lt→ltb, ltb→lt}
+use lib.IntN.{nat_abs, neg_ℤ}
+use lib.Signed.{le_z}
 use mir.Syntax.{w64}
-use mir.Val.{SFits, of_z}
-use borrow.Author.Tests.{lt-ltb, le-ltb, le-leb, lt-leb, eq-eqb, ne_eqb}
+use mir.Val.{SFits}
+use borrow.Author.Tests.{lt-ltb, le-ltb, le-leb, lt-leb, leb-false, eq-eqb, ne_eqb}
 use Rattle.wire.specs.Numbers.{added}
 
 module _ (p : ℕ) where
@@ -35,35 +35,23 @@ module _ (p : ℕ) where
   unfolding added
   down_sum n d h = rw (ne_eqb, le-leb)
 
-  -- ---- the library's sum
-  up_some : (n : ℕ) (r : Option ℕ) → SomeIff r (FitsUnsigned w64 (pos p +ℤ pos n)) (unsigned_abs (pos p +ℤ pos n)) → r ≡ added p (pos n)
-  up_some n None s =
-      let far : p + n < 2 ^ 64 → ⊥ = (λ h. s (record { le = le→leb 0 (p + n) (omega arith) }, record { lt = lt→ltb (p + n) (2 ^ 64) h })) in
-      sym (up_outside n (omega arith))
-  up_some n (Some x) s = rw s.1 (sym (up_sum n (ltb→lt (p + n) (2 ^ 64) s.0.1.lt)))
+  -- ---- by the library's sum and difference
+  sum_some : (n : ℕ) (r : Option ℕ) → SomeIff r (p + n < 2 ^ 64) (p + n) → r ≡ added p (pos n)
+  sum_some n None s = sym (up_outside n (let far : p + n < 2 ^ 64 → ⊥ = s in omega arith))
+  sum_some n (Some x) s = rw s.1 (sym (up_sum n s.0))
 
-  below : (n : ℕ) → p < suc n → pos p +ℤ negsuc n ≡ negsuc (suc n - suc p)
-  below n h = rw (lt-ltb p (suc n) h)
+  difference_some : (n : ℕ) → (suc n ≡ 2 ^ 63 → ⊥) → (r : Option ℕ) → SomeIff r (suc n ≤ p) (p - suc n) → r ≡ added p (negsuc n)
+  difference_some n d None s = sym (down_outside n d (let far : suc n ≤ p → ⊥ = s in omega arith))
+  difference_some n d (Some x) s = rw s.1 (sym (down_sum n d s.0))
 
-  above : (n : ℕ) → suc n ≤ p → pos p +ℤ negsuc n ≡ pos (p - suc n)
-  above n h = rw (le-ltb p (suc n) h)
+  pub up_some : (z : ℤ) → le_z (pos 0) z ≡ true → (r : Option ℕ) → SomeIff r (p + nat_abs z < 2 ^ 64) (p + nat_abs z) → r ≡ added p z
+  up_some (pos n) e r s = sum_some n r s
+  up_some (negsuc n) e r s = absurd (let z : ◌≡◌ {A = ℕ} 0 1 = cc in omega arith)
 
-  down_some : (n : ℕ) → (suc n ≡ 2 ^ 63 → ⊥) → (r : Option ℕ) → p < 2 ^ 64
-      → SomeIff r (FitsUnsigned w64 (pos p +ℤ negsuc n)) (unsigned_abs (pos p +ℤ negsuc n)) → r ≡ added p (negsuc n)
-  down_some n d None h s =
-      let far : suc n ≤ p → ⊥ =
-      (λ l. (rw (above n l) at s) (record { le = le→leb 0 (p - suc n) (omega arith) }, record { lt = lt→ltb (p - suc n) (2 ^ 64) (omega arith) })) in
-      sym (down_outside n d (omega arith))
-  down_some n d (Some x) h s =
-      let near : p < suc n → ⊥ = (λ l. (rw (below n l) at s.0.0).le) in
-      let l : suc n ≤ p = omega arith in
-      rw (rw (above n l) at s.1) (sym (down_sum n d l))
+  pub down_some : (z : ℤ) → le_z (pos 0) z ≡ false → SFits w64 (neg_ℤ z) → (r : Option ℕ) → SomeIff r (nat_abs (neg_ℤ z) ≤ p) (p - nat_abs (neg_ℤ z)) → r ≡ added p z
+  down_some (pos n) e f r s = absurd (omega (arith, leb-false 0 n e))
+  down_some (negsuc n) e f r s = difference_some n (λ e. let h = f.sfits in omega arith) r s
 
-  pub sum_some : (z : ℤ) → SFits w64 z → (of_z w64 z ≡ 2 ^ 63 → ⊥) → (r : Option ℕ) → p < 2 ^ 64
-      → SomeIff r (FitsUnsigned w64 (pos p +ℤ z)) (unsigned_abs (pos p +ℤ z)) → r ≡ added p z
-  sum_some (pos n) f d r h s = up_some n r s
-  sum_some (negsuc n) f d r h s = down_some n (λ e. d (omega arith)) r h s
-
-  pub sum_none : (z : ℤ) → SFits w64 z → of_z w64 z ≡ 2 ^ 63 → added p z ≡ None
-  sum_none (pos n) f e = absurd (let h = f.sfits in omega arith)
-  sum_none (negsuc n) f e = lowest_outside n (let h = f.sfits in omega arith)
+  pub down_none : (z : ℤ) → SFits w64 z → le_z (pos 0) z ≡ false → (SFits w64 (neg_ℤ z) → ⊥) → None ≡ added p z
+  down_none (pos n) f e h = absurd (omega (arith, leb-false 0 n e))
+  down_none (negsuc n) f e h = sym (lowest_outside n (let g = f.sfits in let far : suc n < 2 ^ 63 → ⊥ = (λ l. h (record { sfits = l })) in omega arith))

@@ -15,17 +15,15 @@ pub fn clamp_usize_to_u32(x: usize) -> u32
     clamp_to_u32(x as u64)
 }
 
-// The i64 that has no negation.
-const LOWEST: i64 = i64::MIN;
-
-// The position p moved by d. The lowest d has no negation in its type and is refused.
+// The position p moved by d. An i64 that leads back is negated; the lowest has no negation in its type and is refused.
 pub fn checked_add_i64(p: u64, d: i64) -> Option<u64>
     ensures { result ≡ added p d }
 {
-    if d == LOWEST {
-        None
+    if d >= 0 {
+        p.checked_add(d as u64)
     } else {
-        p.checked_add_signed(d)
+        let down = d.checked_neg()?;
+        p.checked_sub(down as u64)
     }
 }
 
