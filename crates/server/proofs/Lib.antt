@@ -8,6 +8,7 @@ pub mod Bounds
 pub mod Owing
 pub mod Records
 pub mod Idle
+pub mod Refusals
 pub mod Kept
 pub mod Tidy
 pub mod Numbers

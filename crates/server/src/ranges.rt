@@ -1,8 +1,8 @@
 // What is refused: a state outside the ranges of docs/STATES.md, and a table or an image that will not do.
-ghost use Rattle.std.specs.Prelude.{◌≡◌, ◌<◌, not, List, ℕ, eqb, ltb, leb, OnErr};
+ghost use Rattle.std.specs.Prelude.{◌≡◌, not, List, ℕ, eqb, ltb, leb};
 ghost use Rattle.machine.specs.Choice.{pick, both, between};
 ghost use Rattle.wire.specs.Constants.{NBD_OPT_EXPORT_NAME, NBD_EPERM, NBD_ENOSPC};
-ghost use Rattle.wire.specs.Table.{fault, read_only};
+ghost use Rattle.wire.specs.Table.{read_only};
 ghost use Rattle.server.specs.Session.{reply_length};
 ghost use Rattle.server.specs.View.{view, handshake_of, transmission_of, used_shaking, used_serving, used};
 ghost use Rattle.server.specs.Ranges.{
@@ -169,8 +169,7 @@ pub fn in_range(s: Server) -> bool
 
 // Whether the export's window lies in an image of n bytes.
 fn window_fault(e: Export, n: usize) -> Result<(), Refusal>
-    ensures number { refusal_of result ≡ window_fault n e }
-    ensures refuses { OnErr result (0 < window_fault n e) }
+    ensures { refusal_of result ≡ window_fault n e }
 {
     if table::window_fits(e, n) {
         Ok(())
@@ -180,8 +179,7 @@ fn window_fault(e: Export, n: usize) -> Result<(), Refusal>
 }
 
 fn window_fault_shaking(p: Handshake, n: usize) -> Result<(), Refusal>
-    ensures number { (h : List ℕ) → refusal_of result ≡ window_fault_shaking n (handshake_of h p) }
-    ensures refuses { OnErr result ((h : List ℕ) → 0 < window_fault_shaking n (handshake_of h p)) }
+    ensures { (h : List ℕ) → refusal_of result ≡ window_fault_shaking n (handshake_of h p) }
 {
     match p {
         Handshake::Exporting(x) => window_fault(x.export, n),
@@ -189,21 +187,13 @@ fn window_fault_shaking(p: Handshake, n: usize) -> Result<(), Refusal>
     }
 }
 
-fn sound(table: &[u8], n: usize) -> Result<(), Refusal>
-    ensures number { refusal_of result ≡ fault n table.now }
-    ensures refuses { OnErr result (0 < fault n table.now) }
-{
-    table::check(table, n).map_err(Refusal::Table)
-}
-
 // What is wrong with what is lent, if anything is.
 fn loan_fault(s: Server, table: &[u8], n: usize) -> Result<(), Refusal>
-    ensures number { refusal_of result ≡ loan_fault table.now n (view s) }
-    ensures refuses { OnErr result (0 < loan_fault table.now n (view s)) }
+    ensures { refusal_of result ≡ loan_fault table.now n (view s) }
 {
     match s.phase {
         Phase::Shaking(h) => {
-            sound(table, n)?;
+            table::check(table, n)?;
             window_fault_shaking(h, n)
         }
         Phase::Serving(e, _) => window_fault(e, n),
@@ -213,8 +203,7 @@ fn loan_fault(s: Server, table: &[u8], n: usize) -> Result<(), Refusal>
 
 // Why a step is refused, if it is.
 pub fn refusal(s: Server, table: &[u8], n: usize) -> Result<(), Refusal>
-    ensures number { refusal_of result ≡ refusal table.now n s }
-    ensures refuses { OnErr result (0 < refusal table.now n s) }
+    ensures { refusal_of result ≡ refusal table.now n s }
 {
     if !in_range(s) {
         return Err(Refusal::OutOfRange);

@@ -1,10 +1,11 @@
 // Why a step or the end of input is refused.
 ghost use Rattle.std.specs.Prelude.{◌≡◌};
 ghost use Rattle.server.specs.Ranges.{number};
+ghost use Rattle.server.specs.declared.refusal.Refusal.TheVariants.{Table};
 
 use wire::table::Fault;
 
-#[derive(Clone, Copy)]
+#[derive(Clone, Copy, Debug, PartialEq, Eq)]
 pub enum Refusal {
     // the table's first fault
     Table(Fault),
@@ -27,5 +28,13 @@ impl Refusal {
             Refusal::OutOfRange => 27,
             Refusal::OutputOwed => 28,
         }
+    }
+}
+
+impl From<Fault> for Refusal {
+    ghost from_gives = { λ fault why. why ≡ Table fault };
+
+    fn from(fault: Fault) -> Refusal {
+        Refusal::Table(fault)
     }
 }

@@ -11,18 +11,18 @@ use Rattle.server.proofs.Bounds.{accepted}
 use Rattle.server.proofs.state.Server.step.Goals as goal
 
 pub advance-r-requires : goal.advance-r-requires
-advance-r-requires c = lasts (accepted c.args.table.now (length c.args.image.now) c.args.self (sym c.in_default.ensures.number))
+advance-r-requires c = lasts (accepted c.args.table.now (length c.args.image.now) c.args.self (sym c.in_default.ensures))
 
 pub canonical-state-requires : goal.canonical-state-requires
 canonical-state-requires c =
     let s = c.advance-r.result.state in
-    let g = accepted c.args.table.now (length c.args.image.now) c.args.self (sym c.in_default.ensures.number) in
+    let g = accepted c.args.table.now (length c.args.image.now) c.args.self (sym c.in_default.ensures) in
     used_fits s.head (search rules) s.phase (next_good c.advance-r.ensures.goes.moves g).within
 
 pub returns : goal.returns
 returns c =
     let t = c.canonical-state.ensures in
-    let fine = sym c.in_default.ensures.number in
+    let fine = sym c.in_default.ensures in
     let v = stands_for (view c.advance-r.result.state) (next_good c.advance-r.ensures.goes.moves (accepted c.args.table.now (length c.args.image.now) c.args.self fine)).within t in
     record {
       refuses = λ z. absurd (z fine);
