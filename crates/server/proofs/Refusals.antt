@@ -1,7 +1,7 @@
 -- The numbers of refusals.
 --   fault_told   a table's fault comes before any other
 use Prim.Native.Nat.{ℕ}
-use mathlib.Core.Path.{◌≡◌, refl, sym, ◌∙◌}
+use mathlib.Core.Path.{◌≡◌, refl}
 use Rattle.std.specs.Prelude.{Result, IsErrOf, ⊤}
 use Rattle.wire.specs.Table.{first_fault, number_of}
 use Rattle.wire.specs.declared.table.Fault.{Fault}
