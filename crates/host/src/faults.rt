@@ -1,5 +1,6 @@
 // A table that is refused: why, and which record it is.
 use crate::words;
+use std::fmt;
 use wire::records::Records;
 use wire::table;
 use wire::table::Fault;
@@ -16,21 +17,38 @@ pub fn text(fault: Fault) -> &'static str {
     }
 }
 
+// A table that has this fault, for an image of so many bytes: as text, with the record that has it.
+#[derive(Clone, Copy)]
+pub struct BadTable<'a> {
+    pub fault: Fault,
+    pub table: &'a [u8],
+    pub image: usize,
+}
+
 // Which record has the table's first fault: the one behind those that are sound.
-pub fn bad_record(table: &[u8], image: usize) -> u64 {
+fn bad_record(table: &[u8], image: usize) -> usize {
     let good = Records::of(table)
         .take_while(|e| table::record_fault(*e, image).is_ok())
         .count();
-    good as u64 + 1
+    good + 1
 }
 
-// A table's fault, and the record that has it; the version byte is no record's.
-pub fn say_bad_table(fault: Fault, table: &[u8], image: usize) {
-    let n = fault.number();
-    words::tell(format_args!("the table is refused with {n}: "));
-    if fault != Fault::Version {
-        let k = bad_record(table, image);
-        words::tell(format_args!("record {k}: "));
+impl fmt::Display for BadTable<'_> {
+    fn fmt<W: fmt::Write>(&self, f: &mut fmt::Formatter<W>) -> fmt::Result {
+        write!(f, "the table is refused with {}: ", self.fault.number())?;
+        // the version byte is no record's
+        if self.fault != Fault::Version {
+            write!(f, "record {}: ", bad_record(self.table, self.image))?;
+        }
+        f.write_str(text(self.fault))
     }
-    words::tell(format_args!("{}\n", text(fault)));
+}
+
+pub fn say_bad_table(fault: Fault, table: &[u8], image: usize) {
+    let bad = BadTable {
+        fault,
+        table,
+        image,
+    };
+    words::tell(format_args!("{bad}\n"));
 }

@@ -1,7 +1,7 @@
 // From a table to lines of text that make it again.
 use crate::STDOUT;
-use host::faults;
-use host::words::say;
+use host::faults::BadTable;
+use host::words::tell;
 use wire::records::{Entry, Records};
 use wire::table;
 use wire::table::Export;
@@ -66,8 +66,12 @@ pub fn list(table: &[u8], image: usize) {
             }
         }
         Err(fault) => {
-            say(b"mktable: ");
-            faults::say_bad_table(fault, table, image);
+            let bad = BadTable {
+                fault,
+                table,
+                image,
+            };
+            tell(format_args!("mktable: {bad}\n"));
         }
     }
 }

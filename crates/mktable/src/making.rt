@@ -4,6 +4,7 @@ ghost use Rattle.wire.specs.Table.{fault};
 ghost use Rattle.mktable.specs.Making.{ParsedIn};
 
 use crate::{STDOUT, flags};
+use host::faults::BadTable;
 use host::text::{Mistake, Number};
 use host::words::{say, tell};
 use host::{faults, text};
@@ -38,6 +39,12 @@ impl fmt::Display for Wrong {
 impl From<Mistake> for Wrong {
     fn from(m: Mistake) -> Wrong {
         Wrong::Mistake(m)
+    }
+}
+
+impl From<Fault> for Wrong {
+    fn from(fault: Fault) -> Wrong {
+        Wrong::Fault(fault)
     }
 }
 
@@ -106,15 +113,15 @@ fn try_record(
     x: Export,
     name: &[u8],
     image: usize,
-) -> Result<usize, Wrong>
+) -> Result<usize, Fault>
     requires { (length name.now ≤ 4096) × (n ≤ length table.old) }
     ensures { IfOk result (λ end. end ≤ length table.old) }
 {
     if table.len() - n < 19 + name.len() {
-        return Err(Wrong::Fault(Fault::Count));
+        return Err(Fault::Count);
     }
     let end = add_record(table, n, x, name);
-    table::check(&table[..end], image).map_err(Wrong::Fault)?;
+    table::check(&table[..end], image)?;
     Ok(end)
 }
 
@@ -126,7 +133,7 @@ fn add_line(line: &[u8], table: &mut [u8], n: usize, image: usize) -> Result<usi
     let mut name = io::buffer();
     match parse(line, &mut name)? {
         None => Ok(n),
-        Some(Record { export, len }) => try_record(table, n, export, &name[..len], image),
+        Some(Record { export, len }) => Ok(try_record(table, n, export, &name[..len], image)?),
     }
 }
 
@@ -144,8 +151,12 @@ fn finish(table: &[u8], image: usize) {
     match table::check(table, image) {
         Ok(()) => write_table(table, image),
         Err(fault) => {
-            say(b"mktable: ");
-            faults::say_bad_table(fault, table, image);
+            let bad = BadTable {
+                fault,
+                table,
+                image,
+            };
+            tell(format_args!("mktable: {bad}\n"));
         }
     }
 }
