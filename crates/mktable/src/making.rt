@@ -94,49 +94,6 @@ fn head(x: Export, len: usize) -> [u8; 19]
     h
 }
 
-// The record behind the first n bytes of the table. It answers where it ends.
-fn add_record(table: &mut [u8], n: usize, x: Export, name: &[u8]) -> usize
-    requires { (length name.now ≤ 4096) × (n + 19 + length name.now ≤ length table.old) }
-    ensures { result ≡ n + 19 + length name.now }
-{
-    let start = n + 19;
-    let end = start + name.len();
-    table[n..start].copy_from_slice(&head(x, name.len()));
-    table[start..end].copy_from_slice(name);
-    end
-}
-
-// Adds a record if the table stays sound. It answers where the table ends.
-fn try_record(
-    table: &mut [u8],
-    n: usize,
-    x: Export,
-    name: &[u8],
-    image: usize,
-) -> Result<usize, Fault>
-    requires { (length name.now ≤ 4096) × (n ≤ length table.old) }
-    ensures { IfOk result (λ end. end ≤ length table.old) }
-{
-    if table.len() - n < 19 + name.len() {
-        return Err(Fault::Count);
-    }
-    let end = add_record(table, n, x, name);
-    table::check(&table[..end], image)?;
-    Ok(end)
-}
-
-// Adds what a line says. It answers where the table ends.
-fn add_line(line: &[u8], table: &mut [u8], n: usize, image: usize) -> Result<usize, Wrong>
-    requires { n ≤ length table.old }
-    ensures { IfOk result (λ end. end ≤ length table.old) }
-{
-    let mut name = io::buffer();
-    match parse(line, &mut name)? {
-        None => Ok(n),
-        Some(Record { export, len }) => Ok(try_record(table, n, export, &name[..len], image)?),
-    }
-}
-
 // The only place that writes a table: it passes the check for that image.
 fn write_table(table: &[u8], image: usize)
     requires { fault image table.now ≡ 0 }
@@ -147,38 +104,83 @@ fn write_table(table: &[u8], image: usize)
     }
 }
 
-fn finish(table: &[u8], image: usize) {
-    match table::check(table, image) {
-        Ok(()) => write_table(table, image),
-        Err(fault) => {
-            let bad = BadTable {
-                fault,
-                table,
-                image,
-            };
-            tell(format_args!("mktable: {bad}\n"));
+// A table that is being made for an image of so many bytes: the first bytes of the buffer.
+#[derive(Drop)]
+struct Draft<'a> {
+    buffer: &'a mut [u8],
+    len: usize,
+    image: usize,
+    ghost fits: { len ≤ length buffer.now },
+}
+
+impl<'a> Draft<'a> {
+    // The version byte: a table with no record.
+    fn new(buffer: &'a mut [u8], image: usize) -> Draft<'a>
+        requires { 1 ≤ length buffer.now }
+    {
+        buffer[0] = 1;
+        Draft {
+            buffer,
+            len: 1,
+            image,
+        }
+    }
+
+    // Adds a record if the table stays sound.
+    fn add(&mut self, x: Export, name: &[u8]) -> Result<(), Fault>
+        requires { length name.now ≤ 4096 }
+    {
+        if self.buffer.len() - self.len < 19 + name.len() {
+            return Err(Fault::Count);
+        }
+        let start = self.len + 19;
+        let end = start + name.len();
+        self.buffer[self.len..start].copy_from_slice(&head(x, name.len()));
+        self.buffer[start..end].copy_from_slice(name);
+        table::check(&self.buffer[..end], self.image)?;
+        self.len = end;
+        Ok(())
+    }
+
+    // Adds what a line says.
+    fn add_line(&mut self, line: &[u8]) -> Result<(), Wrong> {
+        let mut name = io::buffer();
+        if let Some(Record { export, len }) = parse(line, &mut name)? {
+            self.add(export, &name[..len])?;
+        }
+        Ok(())
+    }
+
+    fn finish(&self) {
+        let table = &self.buffer[..self.len];
+        let image = self.image;
+        match table::check(table, image) {
+            Ok(()) => write_table(table, image),
+            Err(fault) => {
+                let bad = BadTable {
+                    fault,
+                    table,
+                    image,
+                };
+                tell(format_args!("mktable: {bad}\n"));
+            }
         }
     }
 }
 
 // Every line is read, so that every mistake is named; after one, nothing is written.
-pub fn make(text: &[u8], image: usize, table: &mut [u8])
-    requires { 1 ≤ length table.old }
+pub fn make(text: &[u8], image: usize, buffer: &mut [u8])
+    requires { 1 ≤ length buffer.old }
 {
-    // the version byte: a table with no record
-    table[0] = 1;
-    let mut end = 1;
+    let mut draft = Draft::new(buffer, image);
     let mut good = true;
     for (k, line) in (1u64..).zip(text.split(|b| *b == b'\n')) {
-        match add_line(line, table, end, image) {
-            Ok(next) => end = next,
-            Err(wrong) => {
-                tell(format_args!("mktable: line {k}: {wrong}\n"));
-                good = false;
-            }
+        if let Err(wrong) = draft.add_line(line) {
+            tell(format_args!("mktable: line {k}: {wrong}\n"));
+            good = false;
         }
     }
     if good {
-        finish(&table[..end], image);
+        draft.finish();
     }
 }
