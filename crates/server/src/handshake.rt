@@ -7,6 +7,7 @@ ghost use Rattle.server.specs.Ranges.{ranged_shaking};
 ghost use Rattle.server.specs.Contract.{owes_output};
 ghost use Rattle.server.specs.Inner.{reply_of, left_of, with_left, Owes, Absorbed, Emitted};
 
+use crate::ending::Ending;
 use crate::state::{Declining, Exporting, Handshake, Phase, Server};
 use crate::{heads, options, ranges};
 use machine::ends::{Gave, Took};
@@ -47,7 +48,7 @@ fn judge_flags(head: [u8; 28], k: usize) -> Phase
             have: 0,
         })
     } else {
-        Phase::Over(1)
+        Phase::Over(Ending::ClientFlags as u8)
     }
 }
 

@@ -1,6 +1,7 @@
 // An NBD server without sockets: the host keeps the wire, lends slices, and hands a state in and gets it back.
 #![tactic(auto)]
 
+mod ending;
 mod handshake;
 mod heads;
 pub mod oldstyle;
@@ -17,6 +18,7 @@ ghost use Rattle.server.specs.Session.{Greeting, Shaking};
 ghost use Rattle.server.specs.View.{code};
 ghost use Rattle.server.specs.Contract.{cut_off, Serves, Closes};
 
+use ending::Ending;
 use machine::ends;
 use refusal::Refusal;
 use state::{Handshake, Outcome, Phase, Server};
@@ -47,10 +49,10 @@ fn cut_off(s: Server, owed: bool) -> InputEnded
     } else {
         InputEnded {
             state: Server {
-                phase: Phase::Over(12),
+                phase: Phase::Over(Ending::InputEnded as u8),
                 head: [0u8; 28],
             },
-            outcome: Outcome::Ended(12),
+            outcome: Outcome::Ended(Ending::InputEnded as u8),
         }
     }
 }

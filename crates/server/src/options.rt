@@ -21,6 +21,7 @@ ghost use Rattle.server.specs.Session.{
 ghost use Rattle.server.specs.View.{view_of, handshake_of};
 ghost use Rattle.server.specs.Inner.{option_until, Absorbed};
 
+use crate::ending::Ending;
 use crate::state::{Declining, Exporting, Handshake, Naming, Passing, Phase, Server, Transmission};
 use crate::{heads, ranges};
 use machine::copy;
@@ -45,7 +46,7 @@ pub fn aborting(left: usize) -> Phase
     ensures { (h : List ℕ) → view_of h result ≡ aborting left }
 {
     if left == 0 {
-        Phase::Over(7)
+        Phase::Over(Ending::Aborted as u8)
     } else {
         Phase::Shaking(Handshake::Aborting { left })
     }
@@ -89,8 +90,8 @@ impl Passing {
         match self.option {
             consts::NBD_OPT_ABORT => Phase::Shaking(Handshake::Aborting { left: 20 }),
             consts::NBD_OPT_LIST if self.len == 0 => listing(self.zeroes, 51),
-            consts::NBD_OPT_LIST => Phase::Over(4),
-            consts::NBD_OPT_STARTTLS => Phase::Over(8),
+            consts::NBD_OPT_LIST => Phase::Over(Ending::ListPayload as u8),
+            consts::NBD_OPT_STARTTLS => Phase::Over(Ending::StartTls as u8),
             consts::NBD_OPT_INFO
             | consts::NBD_OPT_GO
             | consts::NBD_OPT_STRUCTURED_REPLY
@@ -99,7 +100,7 @@ impl Passing {
                 option: self.option,
                 left: 20,
             })),
-            _ => Phase::Over(9),
+            _ => Phase::Over(Ending::UnknownOption as u8),
         }
     }
 
@@ -136,7 +137,7 @@ impl Naming {
         ensures { (h : List ℕ) → view_of h result ≡ named self.zeroes table.now (set_of self.fits) self.text }
     {
         if !self.text.whole() {
-            return Phase::Over(5);
+            return Phase::Over(Ending::NameText as u8);
         }
         match lookup::lowest(self.fits) {
             Some(k) => Phase::Shaking(Handshake::Exporting(Exporting {
@@ -144,7 +145,7 @@ impl Naming {
                 export: table::export_at(table, k),
                 left: ranges::reply_length(self.zeroes),
             })),
-            None => Phase::Over(6),
+            None => Phase::Over(Ending::UnknownName as u8),
         }
     }
 
@@ -194,7 +195,7 @@ fn payload(zeroes: bool, table: &[u8], option: u32, len: usize) -> Phase
     ensures { (h : List ℕ) → view_of h result ≡ payload zeroes table.now option len }
 {
     if 100000 < len {
-        return Phase::Over(3);
+        return Phase::Over(Ending::OptionLength as u8);
     }
     if option == consts::NBD_OPT_EXPORT_NAME {
         let name = Naming {
@@ -225,7 +226,7 @@ fn judge_option(zeroes: bool, table: &[u8], head: [u8; 28], k: usize) -> Phase
         if fields::same_bytes(&head, 0, &consts::IHAVEOPT) {
             return Phase::Shaking(Handshake::OptionHead { zeroes, have: 8 });
         }
-        return Phase::Over(2);
+        return Phase::Over(Ending::OptionMagic as u8);
     }
     if k < 16 {
         return Phase::Shaking(Handshake::OptionHead { zeroes, have: k });

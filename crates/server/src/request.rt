@@ -3,6 +3,7 @@ ghost use Rattle.std.specs.Prelude.{◌≡◌};
 ghost use Rattle.wire.specs.Table.{read_only};
 ghost use Rattle.server.specs.Request.{request_of, past, owed_read, owed_write, owed};
 
+use crate::ending::Ending;
 use machine::tests::within;
 use wire::table::Export;
 use wire::{consts, fields};
@@ -91,12 +92,12 @@ impl Request {
         match self.typ {
             consts::NBD_CMD_READ => self.owed_read(e),
             consts::NBD_CMD_WRITE => self.owed_write(e),
-            consts::NBD_CMD_DISC => Answer::End(0),
+            consts::NBD_CMD_DISC => Answer::End(Ending::Disconnected as u8),
             consts::NBD_CMD_FLUSH => Answer::Reply(0),
             consts::NBD_CMD_TRIM | consts::NBD_CMD_WRITE_ZEROES => Answer::Reply(
                 consts::NBD_ENOSYS,
             ),
-            _ => Answer::End(11),
+            _ => Answer::End(Ending::UnknownRequest as u8),
         }
     }
 }

@@ -16,6 +16,7 @@ ghost use Rattle.server.specs.Ranges.{ranged_serving};
 ghost use Rattle.server.specs.Contract.{owes_output};
 ghost use Rattle.server.specs.Inner.{request_until, Stored, Sent, Absorbed, Emitted};
 
+use crate::ending::Ending;
 use crate::heads;
 use crate::request::{Answer, Request};
 use crate::state::{Dropping, Phase, Replying, Sending, Server, Storing, Transmission};
@@ -214,7 +215,7 @@ fn requested(e: Export, head: [u8; 28], k: usize) -> Phase
         if fields::read_u32(&head, 0) == consts::NBD_REQUEST_MAGIC {
             return Phase::Serving(e, Transmission::Header { have: 4 });
         }
-        return Phase::Over(10);
+        return Phase::Over(Ending::RequestMagic as u8);
     }
     if k < 28 {
         return Phase::Serving(e, Transmission::Header { have: k });
