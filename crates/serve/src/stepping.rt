@@ -1,11 +1,10 @@
 // Takes and gives apart, by the library's step without room and without input, so that what was stored is known before a reply goes out.
 ghost use Rattle.std.specs.Prelude.{◌≡◌};
-ghost use Rattle.server.specs.View.{view, transmission_of};
-ghost use Rattle.serve.specs.Stepping.{offered, offered_serving, LiesIn, changed, changed_serving, Takes, Gives};
+ghost use Rattle.server.specs.View.{view};
+ghost use Rattle.serve.specs.Stepping.{offered, LiesIn, changed, Takes, Gives};
 
 use server::Stepped;
 use server::state::{Phase, Server, Transmission};
-use wire::table::Export;
 
 // A part of the image: so many bytes from a place on.
 #[derive(Clone, Copy)]
@@ -21,39 +20,14 @@ pub struct Taken {
     pub part: Part,
 }
 
-fn offered_serving(head: [u8; 28], e: Export, p: Transmission, n: usize) -> usize
-    ensures { result ≡ offered_serving (transmission_of head p) n }
-{
-    match p {
-        Transmission::Header { have } => 28usize.saturating_sub(have).min(n),
-        Transmission::Storing(payload) => payload.left.min(n),
-        _ => n,
-    }
-}
-
 // How many of n bytes a step is offered: none behind a request's header, nor behind a payload that is stored.
 fn offered(s: Server, n: usize) -> usize
     ensures { result ≡ offered (view s) n }
 {
-    let head = s.head;
-    let p = s.phase;
-    match p {
-        Phase::Shaking(_) => n,
-        Phase::Serving(e, t) => offered_serving(head, e, t, n),
-        Phase::Over(_) => n,
-    }
-}
-
-fn changed_serving(head: [u8; 28], e: Export, p: Transmission, taken: usize, image: usize) -> Part
-    requires { LiesIn image (changed_serving e (transmission_of head p) taken) }
-    ensures { result ≡ changed_serving e (transmission_of head p) taken }
-{
-    match p {
-        Transmission::Storing(payload) => Part {
-            from: e.start as usize + payload.off,
-            len: taken,
-        },
-        _ => Part { from: 0, len: 0 },
+    match s.phase {
+        Phase::Serving(_, Transmission::Header { have }) => 28usize.saturating_sub(have).min(n),
+        Phase::Serving(_, Transmission::Storing(payload)) => payload.left.min(n),
+        _ => n,
     }
 }
 
@@ -62,16 +36,12 @@ fn changed(s: Server, taken: usize, image: usize) -> Part
     requires { LiesIn image (changed (view s) taken) }
     ensures { result ≡ changed (view s) taken }
 {
-    let none = Part { from: 0, len: 0 };
-    if taken == 0 {
-        return none;
-    }
-    let head = s.head;
-    let p = s.phase;
-    match p {
-        Phase::Shaking(_) => none,
-        Phase::Serving(e, t) => changed_serving(head, e, t, taken, image),
-        Phase::Over(_) => none,
+    match s.phase {
+        Phase::Serving(e, Transmission::Storing(payload)) if 0 < taken => Part {
+            from: e.start as usize + payload.off,
+            len: taken,
+        },
+        _ => Part { from: 0, len: 0 },
     }
 }
 
