@@ -26,6 +26,7 @@ ghost use Rattle.client.specs.View.{view_of, filler_of, handshake_of};
 ghost use Rattle.client.specs.Inner.{Some, GoodShaking, Absorbed, Emitted};
 
 use crate::ending::Ending;
+use crate::heads;
 use crate::state::{Client, Device, Fields, Filler, Handshake, Outcome, Phase, Value};
 use machine::ends::{Gave, Took};
 use machine::parts;
@@ -216,36 +217,36 @@ fn hello(n: u32) -> [u8; 20]
 
 // ---- one leaf for each phase
 
-// As the next, `take_size_and_flags` and a reply's `hear`. One function over the judge as a closure would be no shorter: each closure would have to
-// state its judge's contract again.
 fn take_magic(head: [u8; 16], name: usize, have: usize, input: &[u8]) -> Took<Client>
     requires { have < 8 }
     ensures { (m : List ℕ) → Absorbed (Shaking name (Magic (take have head))) m input.now result m }
 {
-    let mut bytes = head;
-    let n = parts::gather(&mut bytes, have, 8, input);
-    Took {
-        state: Client {
-            phase: judge_magic(name, bytes, have + n),
-            head: bytes,
-        },
-        taken: n,
-    }
+    heads::take(
+        head,
+        have,
+        8,
+        input,
+        |bytes, k|
+            requires { k ≤ 8 }
+            ensures { view_of bytes result ≡ judge_magic name (take k bytes) }
+        { judge_magic(name, bytes, k) },
+    )
 }
 
 fn take_style(head: [u8; 16], name: usize, have: usize, input: &[u8]) -> Took<Client>
     requires { have < 8 }
     ensures { (m : List ℕ) → Absorbed (Shaking name (Style (take have head))) m input.now result m }
 {
-    let mut bytes = head;
-    let n = parts::gather(&mut bytes, have, 8, input);
-    Took {
-        state: Client {
-            phase: judge_style(name, bytes, have + n),
-            head: bytes,
-        },
-        taken: n,
-    }
+    heads::take(
+        head,
+        have,
+        8,
+        input,
+        |bytes, k|
+            requires { k ≤ 8 }
+            ensures { view_of bytes result ≡ judge_style name (take k bytes) }
+        { judge_style(name, bytes, k) },
+    )
 }
 
 // A new-style server's flags, of `count` bytes of input.
@@ -301,15 +302,16 @@ fn take_size_and_flags(
     requires { have < size_and_flags_length old }
     ensures { (m : List ℕ) → Absorbed (Shaking name (SizeAndFlags old (take have head))) m input.now result m }
 {
-    let mut bytes = head;
-    let n = parts::gather(&mut bytes, have, size_and_flags_length(old), input);
-    Took {
-        state: Client {
-            phase: judge_size_and_flags(name, old, bytes, have + n),
-            head: bytes,
-        },
-        taken: n,
-    }
+    heads::take(
+        head,
+        have,
+        size_and_flags_length(old),
+        input,
+        |bytes, k|
+            requires { k ≤ size_and_flags_length old }
+            ensures { view_of bytes result ≡ judge_size_and_flags name old (take k bytes) }
+        { judge_size_and_flags(name, old, bytes, k) },
+    )
 }
 
 fn take_filler(head: [u8; 16], name: usize, f: Filler, input: &[u8]) -> Took<Client>

@@ -4,6 +4,7 @@
 mod calls;
 mod ending;
 mod handshake;
+mod heads;
 mod ranges;
 mod refusal;
 pub mod state;

@@ -18,9 +18,9 @@ ghost use Rattle.client.specs.View.{view_of, progress_of};
 ghost use Rattle.client.specs.Ranges.{lent_to, ranged_call};
 ghost use Rattle.client.specs.Inner.{Some, GoodProgress, Absorbed, Emitted};
 
-use crate::calls;
 use crate::ending::Ending;
 use crate::state::{Call, Client, Device, Outcome, Phase, Progress};
+use crate::{calls, heads};
 use machine::ends::{Gave, Took};
 use machine::{copy, parts};
 use wire::{consts, fields};
@@ -154,15 +154,16 @@ impl Exchange {
         requires { have < 16 }
         ensures { (m : List ℕ) → Absorbed (Calling self.device self.call (Hearing (take have head))) m input.now result m }
     {
-        let mut bytes = head;
-        let n = parts::gather(&mut bytes, have, 16, input);
-        Took {
-            state: Client {
-                phase: self.heard(bytes, have + n),
-                head: bytes,
-            },
-            taken: n,
-        }
+        heads::take(
+            head,
+            have,
+            16,
+            input,
+            |bytes, k|
+                requires { k ≤ 16 }
+                ensures { view_of bytes result ≡ heard self.device self.call (take k bytes) }
+            { self.heard(bytes, k) },
+        )
     }
 
     // A read's data into what is lent.

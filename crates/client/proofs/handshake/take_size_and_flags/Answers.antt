@@ -8,14 +8,8 @@ use Rattle.client.proofs.Header.{terms_most, terms_part}
 use Rattle.client.proofs.Runs.{gathered_leaf}
 use Rattle.client.proofs.handshake.take_size_and_flags.Goals as goal
 
-pub gather-n-requires : goal.gather-n-requires
-gather-n-requires c =
-    let s : length c.args.head ≡ 16 = search rules in
-    let e = c.size_and_flags_length.ensures in
-    (omega (arith, c.requires), omega (arith, terms_most c.args.old))
-
 pub returns : goal.returns
 returns c =
     let a = c.args in
     let s : length c.args.head ≡ 16 = search rules in
-    λ m. gathered_leaf (λ h. Shaking a.name (SizeAndFlags a.old h)) (judge_size_and_flags a.name a.old) (size_and_flags_length a.old) (terms_part a.name a.old) (λ _. refl) c.requires (omega (arith, terms_most a.old)) (rw c.size_and_flags_length.ensures at c.gather-n.ensures) c.judge_size_and_flags.ensures
+    λ m. gathered_leaf (λ h. Shaking a.name (SizeAndFlags a.old h)) (judge_size_and_flags a.name a.old) (size_and_flags_length a.old) (terms_part a.name a.old) (λ _. refl) c.requires (omega (arith, terms_most a.old)) (rw c.size_and_flags_length.ensures at c.take.ensures.gathers) c.take.ensures.judged.1

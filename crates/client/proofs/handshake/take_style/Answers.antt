@@ -9,4 +9,4 @@ use Rattle.client.proofs.handshake.take_style.Goals as goal
 pub returns : goal.returns
 returns c =
     let a = c.args in
-    λ m. gathered_leaf (λ h. Shaking a.name (Style h)) (judge_style a.name) 8 (style_part a.name) (λ _. refl) c.requires (search rules) c.gather-n.ensures c.judge_style.ensures
+    λ m. gathered_leaf (λ h. Shaking a.name (Style h)) (judge_style a.name) 8 (style_part a.name) (λ _. refl) c.requires (search rules) c.take.ensures.gathers c.take.ensures.judged.1

@@ -9,4 +9,4 @@ use Rattle.client.proofs.transmission.Exchange.hear.Goals as goal
 pub returns : goal.returns
 returns c =
     let x = c.args.self in
-    λ m. gathered_leaf (λ h. Calling x.device x.call (Hearing h)) (heard x.device x.call) 16 (reply_part x.device x.call) (λ _. refl) c.requires (search rules) c.gather-n.ensures c.heard.ensures
+    λ m. gathered_leaf (λ h. Calling x.device x.call (Hearing h)) (heard x.device x.call) 16 (reply_part x.device x.call) (λ _. refl) c.requires (search rules) c.take.ensures.gathers c.take.ensures.judged.1
