@@ -215,155 +215,147 @@ fn hello(n: u32) -> [u8; 20]
     bytes
 }
 
-// ---- one leaf for each phase
-
-fn take_magic(head: [u8; 16], name: usize, have: usize, input: &[u8]) -> Took<Client>
-    requires { have < 8 }
-    ensures { (m : List ℕ) → Absorbed (Shaking name (Magic (take have head))) m input.now result m }
-{
-    heads::take(
-        head,
-        have,
-        8,
-        input,
-        |bytes, k|
-            requires { k ≤ 8 }
-            ensures { view_of bytes result ≡ judge_magic name (take k bytes) }
-        { judge_magic(name, bytes, k) },
-    )
+// A handshake under way: the bytes gathered in `head`, and how long the name is.
+#[derive(Clone, Copy)]
+pub struct Shake {
+    pub head: [u8; 16],
+    pub name: usize,
 }
 
-fn take_style(head: [u8; 16], name: usize, have: usize, input: &[u8]) -> Took<Client>
-    requires { have < 8 }
-    ensures { (m : List ℕ) → Absorbed (Shaking name (Style (take have head))) m input.now result m }
-{
-    heads::take(
-        head,
-        have,
-        8,
-        input,
-        |bytes, k|
-            requires { k ≤ 8 }
-            ensures { view_of bytes result ≡ judge_style name (take k bytes) }
-        { judge_style(name, bytes, k) },
-    )
-}
-
-// A new-style server's flags, of `count` bytes of input.
-fn skip_flags(head: [u8; 16], name: usize, left: usize, count: usize) -> Took<Client>
-    requires { 0 < left }
-    ensures { (m input : List ℕ) → length input ≡ count → Absorbed (Shaking name (Newstyle left)) m input result m }
-{
-    let n = left.min(count);
-    Took {
-        state: Client {
-            phase: newstyle(name, left - n),
-            head,
-        },
-        taken: n,
+impl Shake {
+    fn at(self, phase: Phase) -> Client
+        ensures { result ≡ record { phase = phase; head = self.head } }
+    {
+        let head = self.head;
+        Client { phase, head }
     }
-}
 
-fn send_hello(head: [u8; 16], name: usize, left: usize, room: &mut [u8]) -> Gave<Client>
-    requires { (name ≤ 4096) × Some 20 left }
-    ensures { (m : List ℕ) → Emitted (Shaking name (Hello left)) m room.old result room.new }
-{
-    let n = parts::give(&hello(name as u32), left, room);
-    Gave {
-        state: Client {
-            phase: greeting(name, left - n),
-            head,
-        },
-        given: n,
+    // ---- one leaf for each phase
+
+    fn take_magic(self, have: usize, input: &[u8]) -> Took<Client>
+        requires { have < 8 }
+        ensures { (m : List ℕ) → Absorbed (Shaking self.name (Magic (take have self.head))) m input.now result m }
+    {
+        heads::take(
+            self.head,
+            have,
+            8,
+            input,
+            |bytes, k|
+                requires { k ≤ 8 }
+                ensures { view_of bytes result ≡ judge_magic self.name (take k bytes) }
+            { judge_magic(self.name, bytes, k) },
+        )
     }
-}
 
-fn send_name(head: [u8; 16], name: usize, left: usize, lent: &[u8], room: &mut [u8]) -> Gave<Client>
-    requires { (name ≡ length lent.now) × Some name left }
-    ensures { Emitted (Shaking name (Naming left)) lent.now room.old result room.new }
-{
-    let n = parts::give(lent, left, room);
-    Gave {
-        state: Client {
-            phase: naming(name, left - n),
-            head,
-        },
-        given: n,
+    fn take_style(self, have: usize, input: &[u8]) -> Took<Client>
+        requires { have < 8 }
+        ensures { (m : List ℕ) → Absorbed (Shaking self.name (Style (take have self.head))) m input.now result m }
+    {
+        heads::take(
+            self.head,
+            have,
+            8,
+            input,
+            |bytes, k|
+                requires { k ≤ 8 }
+                ensures { view_of bytes result ≡ judge_style self.name (take k bytes) }
+            { judge_style(self.name, bytes, k) },
+        )
     }
-}
 
-fn take_size_and_flags(
-    head: [u8; 16],
-    name: usize,
-    old: bool,
-    have: usize,
-    input: &[u8],
-) -> Took<Client>
-    requires { have < size_and_flags_length old }
-    ensures { (m : List ℕ) → Absorbed (Shaking name (SizeAndFlags old (take have head))) m input.now result m }
-{
-    heads::take(
-        head,
-        have,
-        size_and_flags_length(old),
-        input,
-        |bytes, k|
-            requires { k ≤ size_and_flags_length old }
-            ensures { view_of bytes result ≡ judge_size_and_flags name old (take k bytes) }
-        { judge_size_and_flags(name, old, bytes, k) },
-    )
-}
-
-fn take_filler(head: [u8; 16], name: usize, f: Filler, input: &[u8]) -> Took<Client>
-    requires { 0 < f.left }
-    ensures { (m : List ℕ) → Absorbed (Shaking name (filler_of f)) m input.now result m }
-{
-    let n = f.left.min(input.len());
-    let after = Filler {
-        clean: f.clean && parts::blank(&input[..n], 0),
-        left: f.left - n,
-        ..f
-    };
-    Took {
-        state: Client {
-            phase: filler(name, after),
-            head,
-        },
-        taken: n,
+    // A new-style server's flags, of `count` bytes of input.
+    fn skip_flags(self, left: usize, count: usize) -> Took<Client>
+        requires { 0 < left }
+        ensures { (m input : List ℕ) → length input ≡ count → Absorbed (Shaking self.name (Newstyle left)) m input result m }
+    {
+        let n = left.min(count);
+        Took {
+            state: self.at(newstyle(self.name, left - n)),
+            taken: n,
+        }
     }
-}
 
-// ---- the phases put together
-
-// Takes what the phase takes of the input.
-pub fn absorb(head: [u8; 16], name: usize, p: Handshake, input: &[u8]) -> Took<Client>
-    requires { GoodShaking name (handshake_of head p) }
-    ensures { (m : List ℕ) → Absorbed (Shaking name (handshake_of head p)) m input.now result m }
-{
-    match p {
-        Handshake::Magic { have } => take_magic(head, name, have, input),
-        Handshake::Style { have } => take_style(head, name, have, input),
-        Handshake::Newstyle { left } => skip_flags(head, name, left, input.len()),
-        Handshake::SizeAndFlags { old, have } => take_size_and_flags(head, name, old, have, input),
-        Handshake::Filler(f) => take_filler(head, name, f, input),
-        _ => Took::none(Client {
-            phase: Phase::Shaking(name, p),
-            head,
-        }),
+    fn send_hello(self, left: usize, room: &mut [u8]) -> Gave<Client>
+        requires { (self.name ≤ 4096) × Some 20 left }
+        ensures { (m : List ℕ) → Emitted (Shaking self.name (Hello left)) m room.old result room.new }
+    {
+        let n = parts::give(&hello(self.name as u32), left, room);
+        Gave {
+            state: self.at(greeting(self.name, left - n)),
+            given: n,
+        }
     }
-}
 
-// Gives what the phase owes into the room.
-pub fn emit(head: [u8; 16], name: usize, p: Handshake, lent: &[u8], room: &mut [u8]) -> Gave<Client>
-    requires { (name ≡ length lent.now) × (name ≤ 4096) × GoodShaking name (handshake_of head p) }
-    ensures { Emitted (Shaking name (handshake_of head p)) lent.now room.old result room.new }
-{
-    match p {
-        Handshake::Hello { left } => send_hello(head, name, left, room),
-        Handshake::Naming { left } => send_name(head, name, left, lent, room),
-        _ => Gave::none(Client {
-            phase: Phase::Shaking(name, p),
-            head,
-        }),
+    fn send_name(self, left: usize, lent: &[u8], room: &mut [u8]) -> Gave<Client>
+        requires { (self.name ≡ length lent.now) × Some self.name left }
+        ensures { Emitted (Shaking self.name (Naming left)) lent.now room.old result room.new }
+    {
+        let n = parts::give(lent, left, room);
+        Gave {
+            state: self.at(naming(self.name, left - n)),
+            given: n,
+        }
+    }
+
+    fn take_size_and_flags(self, old: bool, have: usize, input: &[u8]) -> Took<Client>
+        requires { have < size_and_flags_length old }
+        ensures { (m : List ℕ) → Absorbed (Shaking self.name (SizeAndFlags old (take have self.head))) m input.now result m }
+    {
+        heads::take(
+            self.head,
+            have,
+            size_and_flags_length(old),
+            input,
+            |bytes, k|
+                requires { k ≤ size_and_flags_length old }
+                ensures { view_of bytes result ≡ judge_size_and_flags self.name old (take k bytes) }
+            { judge_size_and_flags(self.name, old, bytes, k) },
+        )
+    }
+
+    fn take_filler(self, f: Filler, input: &[u8]) -> Took<Client>
+        requires { 0 < f.left }
+        ensures { (m : List ℕ) → Absorbed (Shaking self.name (filler_of f)) m input.now result m }
+    {
+        let n = f.left.min(input.len());
+        let after = Filler {
+            clean: f.clean && parts::blank(&input[..n], 0),
+            left: f.left - n,
+            ..f
+        };
+        Took {
+            state: self.at(filler(self.name, after)),
+            taken: n,
+        }
+    }
+
+    // ---- the phases put together
+
+    // Takes what the phase takes of the input.
+    pub fn absorb(self, p: Handshake, input: &[u8]) -> Took<Client>
+        requires { GoodShaking self.name (handshake_of self.head p) }
+        ensures { (m : List ℕ) → Absorbed (Shaking self.name (handshake_of self.head p)) m input.now result m }
+    {
+        match p {
+            Handshake::Magic { have } => self.take_magic(have, input),
+            Handshake::Style { have } => self.take_style(have, input),
+            Handshake::Newstyle { left } => self.skip_flags(left, input.len()),
+            Handshake::SizeAndFlags { old, have } => self.take_size_and_flags(old, have, input),
+            Handshake::Filler(f) => self.take_filler(f, input),
+            _ => Took::none(self.at(Phase::Shaking(self.name, p))),
+        }
+    }
+
+    // Gives what the phase owes into the room.
+    pub fn emit(self, p: Handshake, lent: &[u8], room: &mut [u8]) -> Gave<Client>
+        requires { (self.name ≡ length lent.now) × (self.name ≤ 4096) × GoodShaking self.name (handshake_of self.head p) }
+        ensures { Emitted (Shaking self.name (handshake_of self.head p)) lent.now room.old result room.new }
+    {
+        match p {
+            Handshake::Hello { left } => self.send_hello(left, room),
+            Handshake::Naming { left } => self.send_name(left, lent, room),
+            _ => Gave::none(self.at(Phase::Shaking(self.name, p))),
+        }
     }
 }

@@ -5,9 +5,10 @@ ghost use Rattle.client.specs.View.{view, view_of, code, used};
 ghost use Rattle.client.specs.Inner.{Good};
 ghost use Rattle.client.specs.Contract.{after, outcome_of};
 
+use crate::handshake::Shake;
+use crate::ranges;
 use crate::state::{Client, Outcome, Phase};
 use crate::transmission::Exchange;
-use crate::{handshake, ranges};
 use machine::ends::{End, Gave, Took};
 
 impl End for Client {
@@ -22,7 +23,10 @@ impl End for Client {
     // Takes what the phase takes of the input.
     fn absorb(self, input: &[u8], _still: &[u8], lent: &mut [u8]) -> Took<Client> {
         match self.phase {
-            Phase::Shaking(name, h) => handshake::absorb(self.head, name, h, input),
+            Phase::Shaking(name, h) => {
+                let head = self.head;
+                Shake { head, name }.absorb(h, input)
+            }
             Phase::Calling(device, call, p) => {
                 Exchange { device, call }.absorb(self.head, p, input, lent)
             }
@@ -33,7 +37,10 @@ impl End for Client {
     // Gives what the phase owes into the room.
     fn emit(self, room: &mut [u8], _still: &[u8], lent: &[u8]) -> Gave<Client> {
         match self.phase {
-            Phase::Shaking(name, h) => handshake::emit(self.head, name, h, lent, room),
+            Phase::Shaking(name, h) => {
+                let head = self.head;
+                Shake { head, name }.emit(h, lent, room)
+            }
             Phase::Calling(device, call, p) => {
                 Exchange { device, call }.emit(self.head, p, lent, room)
             }

@@ -2,13 +2,13 @@
 use mathlib.Core.Path.{refl}
 use Rattle.machine.proofs.Leaves.{absorbs_idle}
 use Rattle.client.proofs.Resting.{shaking_wants}
-use Rattle.client.proofs.handshake.absorb.Goals as goal
+use Rattle.client.proofs.handshake.Shake.absorb.Goals as goal
 
 pub returns-in_default : goal.returns-in_default
 returns-in_default c =
     let a = c.args in
     let n = c.in_default in
-    λ m. rw c.none.ensures (absorbs_idle (shaking_wants a.name a.head m a.p n.not-Magic n.not-Style n.not-Newstyle n.not-SizeAndFlags n.not-Filler))
+    λ m. rw (c.none.ensures, c.at.ensures) (absorbs_idle (shaking_wants a.self.name a.self.head m a.p n.not-Magic n.not-Style n.not-Newstyle n.not-SizeAndFlags n.not-Filler))
 
 pub returns-in-Magic : goal.returns-in-Magic
 returns-in-Magic c = λ m. rw c.in-Magic.is (c.take_magic.ensures m)

@@ -4,9 +4,9 @@ use borrow.Author.Rules.{rules}
 use Rattle.client.specs.Session.{Magic, Shaking, judge_magic}
 use Rattle.client.proofs.Header.{magic_part}
 use Rattle.client.proofs.Runs.{gathered_leaf}
-use Rattle.client.proofs.handshake.take_magic.Goals as goal
+use Rattle.client.proofs.handshake.Shake.take_magic.Goals as goal
 
 pub returns : goal.returns
 returns c =
     let a = c.args in
-    λ m. gathered_leaf (λ h. Shaking a.name (Magic h)) (judge_magic a.name) 8 (magic_part a.name) (λ _. refl) c.requires (search rules) c.take.ensures.gathers c.take.ensures.judged.1
+    λ m. gathered_leaf (λ h. Shaking a.self.name (Magic h)) (judge_magic a.self.name) 8 (magic_part a.self.name) (λ _. refl) c.requires (search rules) c.take.ensures.gathers c.take.ensures.judged.1

@@ -4,10 +4,10 @@ use native.Mathlib.Omega.{arith}
 use Rattle.client.specs.Session.{naming}
 use Rattle.client.proofs.Left.{naming_more}
 use Rattle.client.proofs.Runs.{owed_leaf}
-use Rattle.client.proofs.handshake.send_name.Goals as goal
+use Rattle.client.proofs.handshake.Shake.send_name.Goals as goal
 
 pub returns : goal.returns
 returns c =
     let a = c.args in
     let p = c.requires in
-    owed_leaf (naming a.name) a.lent.now a.lent.now (λ _. refl) refl p.1.0 (omega arith) (naming_more a.name a.left (omega arith)) c.give-n.ensures (c.naming.ensures a.head)
+    owed_leaf (naming a.self.name) a.lent.now a.lent.now (λ _. refl) refl p.1.0 (omega arith) (naming_more a.self.name a.left (omega arith)) c.give-n.ensures (rw c.at.ensures (c.naming.ensures a.self.head))

@@ -4,10 +4,10 @@ use native.Mathlib.Omega.{arith}
 use Rattle.client.specs.Session.{hello, greeting}
 use Rattle.client.proofs.Left.{greeting_more}
 use Rattle.client.proofs.Runs.{owed_leaf, length_hello}
-use Rattle.client.proofs.handshake.send_hello.Goals as goal
+use Rattle.client.proofs.handshake.Shake.send_hello.Goals as goal
 
 pub returns : goal.returns
 returns c =
     let a = c.args in
     let p = c.requires in
-    λ m. owed_leaf (greeting a.name) (hello a.name) m (λ _. refl) c.hello.ensures p.1.0 (rw (length_hello a.name) p.1.1) (greeting_more a.name a.left (omega arith)) c.give-n.ensures (c.greeting.ensures a.head)
+    λ m. owed_leaf (greeting a.self.name) (hello a.self.name) m (λ _. refl) c.hello.ensures p.1.0 (rw (length_hello a.self.name) p.1.1) (greeting_more a.self.name a.left (omega arith)) c.give-n.ensures (rw c.at.ensures (c.greeting.ensures a.self.head))
