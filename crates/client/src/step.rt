@@ -22,13 +22,11 @@ impl End for Client {
 
     // Takes what the phase takes of the input.
     fn absorb(self, input: &[u8], _still: &[u8], lent: &mut [u8]) -> Took<Client> {
+        let head = self.head;
         match self.phase {
-            Phase::Shaking(name, h) => {
-                let head = self.head;
-                Shake { head, name }.absorb(h, input)
-            }
+            Phase::Shaking(name, h) => Shake { head, name }.absorb(h, input),
             Phase::Calling(device, call, p) => {
-                Exchange { device, call }.absorb(self.head, p, input, lent)
+                Exchange { head, device, call }.absorb(p, input, lent)
             }
             _ => Took::none(self),
         }
@@ -36,13 +34,11 @@ impl End for Client {
 
     // Gives what the phase owes into the room.
     fn emit(self, room: &mut [u8], _still: &[u8], lent: &[u8]) -> Gave<Client> {
+        let head = self.head;
         match self.phase {
-            Phase::Shaking(name, h) => {
-                let head = self.head;
-                Shake { head, name }.emit(h, lent, room)
-            }
+            Phase::Shaking(name, h) => Shake { head, name }.emit(h, lent, room),
             Phase::Calling(device, call, p) => {
-                Exchange { device, call }.emit(self.head, p, lent, room)
+                Exchange { head, device, call }.emit(p, lent, room)
             }
             _ => Gave::none(self),
         }

@@ -25,18 +25,26 @@ use machine::ends::{Gave, Took};
 use machine::{copy, parts};
 use wire::{consts, fields};
 
-// An open call on its device, which has the bytes that it moves.
+// An open call on its device, which has the bytes that it moves, and what is gathered in `head`.
 #[derive(Clone, Copy)]
 pub struct Exchange {
+    pub head: [u8; 16],
     pub device: Device,
     pub call: Call,
     ghost within: { ranged_call device call ≡ true },
 }
 
 impl Exchange {
+    fn at(self, phase: Phase) -> Client
+        ensures { result ≡ record { phase = phase; head = self.head } }
+    {
+        let head = self.head;
+        Client { phase, head }
+    }
+
     // ---- the phases that follow where nothing may be left
 
-    fn at(self, progress: Progress) -> Phase
+    fn calling(self, progress: Progress) -> Phase
         ensures { (h : List ℕ) → view_of h result ≡ Calling self.device self.call (progress_of h progress) }
     {
         Phase::Calling(self.device, self.call, progress)
@@ -58,7 +66,7 @@ impl Exchange {
         if left == 0 {
             self.done()
         } else {
-            self.at(Progress::Filling { left })
+            self.calling(Progress::Filling { left })
         }
     }
 
@@ -66,9 +74,9 @@ impl Exchange {
         ensures { (h : List ℕ) → view_of h result ≡ paying self.device self.call left }
     {
         if left == 0 {
-            self.at(Progress::Hearing { have: 0 })
+            self.calling(Progress::Hearing { have: 0 })
         } else {
-            self.at(Progress::Paying { left })
+            self.calling(Progress::Paying { left })
         }
     }
 
@@ -78,7 +86,7 @@ impl Exchange {
         if left == 0 {
             self.paying(calls::payload(self.call) as usize)
         } else {
-            self.at(Progress::Asking { left })
+            self.calling(Progress::Asking { left })
         }
     }
 
@@ -86,12 +94,12 @@ impl Exchange {
 
     // A reply's 16 bytes are there.
     #[tactic(auto, unfolding(crate::specs::Session::replied))]
-    fn replied(self, head: [u8; 16]) -> Phase
-        ensures { (h : List ℕ) → view_of h result ≡ replied self.device self.call head }
+    fn replied(self, bytes: [u8; 16]) -> Phase
+        ensures { (h : List ℕ) → view_of h result ≡ replied self.device self.call bytes }
     {
-        let signature = fields::read_u32(&head, 0);
-        let error = fields::read_u32(&head, 4);
-        let handle = fields::read_u64(&head, 8);
+        let signature = fields::read_u32(&bytes, 0);
+        let error = fields::read_u32(&bytes, 4);
+        let handle = fields::read_u64(&bytes, 8);
         if signature != consts::NBD_REPLY_MAGIC {
             return Phase::Over(Ending::Signature as u8);
         }
@@ -106,56 +114,50 @@ impl Exchange {
     }
 
     // The first k bytes of a reply are there.
-    fn heard(self, head: [u8; 16], k: usize) -> Phase
+    fn heard(self, bytes: [u8; 16], k: usize) -> Phase
         requires { k ≤ 16 }
-        ensures { view_of head result ≡ heard self.device self.call (take k head) }
+        ensures { view_of bytes result ≡ heard self.device self.call (take k bytes) }
     {
         if k < 16 {
-            self.at(Progress::Hearing { have: k })
+            self.calling(Progress::Hearing { have: k })
         } else {
-            self.replied(head)
+            self.replied(bytes)
         }
     }
 
     // ---- one leaf for each phase
 
-    fn send_request(self, head: [u8; 16], left: usize, room: &mut [u8]) -> Gave<Client>
+    fn send_request(self, left: usize, room: &mut [u8]) -> Gave<Client>
         requires { Some 28 left }
         ensures { (m : List ℕ) → Emitted (Calling self.device self.call (Asking left)) m room.old result room.new }
     {
         let bytes = calls::request_bytes(self.device, self.call);
         let n = parts::give(&bytes, left, room);
         Gave {
-            state: Client {
-                phase: self.after_request(left - n),
-                head,
-            },
+            state: self.at(self.after_request(left - n)),
             given: n,
         }
     }
 
     // The payload is the first bytes of what is lent.
-    fn pay(self, head: [u8; 16], left: usize, lent: &[u8], room: &mut [u8]) -> Gave<Client>
+    fn pay(self, left: usize, lent: &[u8], room: &mut [u8]) -> Gave<Client>
         requires { (payload self.call ≤ length lent.now) × Some (payload self.call) left }
         ensures { Emitted (Calling self.device self.call (Paying left)) lent.now room.old result room.new }
     {
         let all = calls::payload(self.call) as usize;
         let n = parts::give(&lent[..all], left, room);
         Gave {
-            state: Client {
-                phase: self.paying(left - n),
-                head,
-            },
+            state: self.at(self.paying(left - n)),
             given: n,
         }
     }
 
-    fn hear(self, head: [u8; 16], have: usize, input: &[u8]) -> Took<Client>
+    fn hear(self, have: usize, input: &[u8]) -> Took<Client>
         requires { have < 16 }
-        ensures { (m : List ℕ) → Absorbed (Calling self.device self.call (Hearing (take have head))) m input.now result m }
+        ensures { (m : List ℕ) → Absorbed (Calling self.device self.call (Hearing (take have self.head))) m input.now result m }
     {
         heads::take(
-            head,
+            self.head,
             have,
             16,
             input,
@@ -167,7 +169,7 @@ impl Exchange {
     }
 
     // A read's data into what is lent.
-    fn fill(self, head: [u8; 16], left: usize, input: &[u8], lent: &mut [u8]) -> Took<Client>
+    fn fill(self, left: usize, input: &[u8], lent: &mut [u8]) -> Took<Client>
         requires { (wanted self.call ≤ length lent.old) × Some (wanted self.call) left }
         ensures { Absorbed (Calling self.device self.call (Filling left)) lent.old input.now result lent.new }
     {
@@ -175,10 +177,7 @@ impl Exchange {
         let n = left.min(input.len());
         copy::copy_part(input, 0, lent, all - left, n);
         Took {
-            state: Client {
-                phase: self.filling(left - n),
-                head,
-            },
+            state: self.at(self.filling(left - n)),
             taken: n,
         }
     }
@@ -186,32 +185,26 @@ impl Exchange {
     // ---- the phases put together
 
     // Takes what the phase takes of the input.
-    pub fn absorb(self, head: [u8; 16], p: Progress, input: &[u8], lent: &mut [u8]) -> Took<Client>
-        requires { (lent_to self.call ≡ length lent.old) × GoodProgress self.call (progress_of head p) }
-        ensures { Absorbed (Calling self.device self.call (progress_of head p)) lent.old input.now result lent.new }
+    pub fn absorb(self, p: Progress, input: &[u8], lent: &mut [u8]) -> Took<Client>
+        requires { (lent_to self.call ≡ length lent.old) × GoodProgress self.call (progress_of self.head p) }
+        ensures { Absorbed (Calling self.device self.call (progress_of self.head p)) lent.old input.now result lent.new }
     {
         match p {
-            Progress::Hearing { have } => self.hear(head, have, input),
-            Progress::Filling { left } => self.fill(head, left, input, lent),
-            _ => Took::none(Client {
-                phase: self.at(p),
-                head,
-            }),
+            Progress::Hearing { have } => self.hear(have, input),
+            Progress::Filling { left } => self.fill(left, input, lent),
+            _ => Took::none(self.at(self.calling(p))),
         }
     }
 
     // Gives what the phase owes into the room.
-    pub fn emit(self, head: [u8; 16], p: Progress, lent: &[u8], room: &mut [u8]) -> Gave<Client>
-        requires { (lent_to self.call ≡ length lent.now) × GoodProgress self.call (progress_of head p) }
-        ensures { Emitted (Calling self.device self.call (progress_of head p)) lent.now room.old result room.new }
+    pub fn emit(self, p: Progress, lent: &[u8], room: &mut [u8]) -> Gave<Client>
+        requires { (lent_to self.call ≡ length lent.now) × GoodProgress self.call (progress_of self.head p) }
+        ensures { Emitted (Calling self.device self.call (progress_of self.head p)) lent.now room.old result room.new }
     {
         match p {
-            Progress::Asking { left } => self.send_request(head, left, room),
-            Progress::Paying { left } => self.pay(head, left, lent, room),
-            _ => Gave::none(Client {
-                phase: self.at(p),
-                head,
-            }),
+            Progress::Asking { left } => self.send_request(left, room),
+            Progress::Paying { left } => self.pay(left, lent, room),
+            _ => Gave::none(self.at(self.calling(p))),
         }
     }
 }

@@ -9,9 +9,9 @@ pub returns-then-k-lt16 : goal.returns-then-k-lt16
 returns-then-k-lt16 c =
     let a = c.args in
     let x = a.self in
-    c.at.ensures a.head ∙ part_waits (λ h. Calling x.device x.call (Hearing h)) (heard x.device x.call) 16 (reply_part x.device x.call) a.head a.k (search rules) c.if-k-lt16.true
+    c.calling.ensures a.bytes ∙ part_waits (λ h. Calling x.device x.call (Hearing h)) (heard x.device x.call) 16 (reply_part x.device x.call) a.bytes a.k (search rules) c.if-k-lt16.true
 
 pub returns-else-k-lt16 : goal.returns-else-k-lt16
 returns-else-k-lt16 c =
     let a = c.args in
-    c.replied.ensures a.head ∙ reply_whole a.self.device a.self.call a.head a.k (search rules) c.if-k-lt16.false
+    c.replied.ensures a.bytes ∙ reply_whole a.self.device a.self.call a.bytes a.k (search rules) c.if-k-lt16.false
