@@ -74,7 +74,7 @@ fn take_flags(head: [u8; 28], have: usize, input: &[u8]) -> Took<Server>
     requires { (have < 4) × (0 < length input.now) }
     ensures { (t m : List ℕ) → Absorbed t (Shaking (ClientFlags (take have head))) m input.now result m }
 {
-    heads::take(head, have, 4, input, judge_flags)
+    heads::take(head, have, 4, 4, input, judge_flags)
 }
 
 // ---- what each phase owes, and where it goes

@@ -13,9 +13,9 @@ pub mod state;
 mod step;
 mod transmission;
 
-ghost use Rattle.std.specs.Prelude.{◌≡◌};
+ghost use Rattle.std.specs.Prelude.{◌≡◌, []};
 ghost use Rattle.server.specs.Session.{Greeting, Shaking};
-ghost use Rattle.server.specs.View.{code};
+ghost use Rattle.server.specs.View.{code, padded};
 ghost use Rattle.server.specs.Contract.{cut_off, Serves, Closes};
 
 use ending::Ending;
@@ -48,24 +48,28 @@ fn cut_off(s: Server, owed: bool) -> InputEnded
         }
     } else {
         InputEnded {
-            state: Server {
-                phase: Phase::Over(Ending::InputEnded as u8),
-                head: [0u8; 28],
-            },
+            state: Server::at(Phase::Over(Ending::InputEnded as u8)),
             outcome: Outcome::Ended(Ending::InputEnded as u8),
         }
     }
 }
 
 impl Server {
+    // With no bytes gathered.
+    fn at(phase: Phase) -> Server
+        ensures { result ≡ record { phase = phase; head = padded [] } }
+    {
+        Server {
+            phase,
+            head: [0u8; 28],
+        }
+    }
+
     // A server at the start of a session: the greeting is owed.
     pub fn new() -> Server
         ensures { result ≡ code (Shaking (Greeting 18)) }
     {
-        Server {
-            phase: Phase::Shaking(Handshake::Greeting { left: 18 }),
-            head: [0u8; 28],
-        }
+        Server::at(Phase::Shaking(Handshake::Greeting { left: 18 }))
     }
 
     // Takes input and gives output as far as both go.

@@ -19,7 +19,7 @@ ghost use Rattle.server.specs.Session.{
   exported,
 };
 ghost use Rattle.server.specs.View.{view_of, handshake_of};
-ghost use Rattle.server.specs.Inner.{option_until, Absorbed};
+ghost use Rattle.server.specs.Inner.{Absorbed};
 
 use crate::ending::Ending;
 use crate::state::{Declining, Exporting, Handshake, Naming, Passing, Phase, Server, Transmission};
@@ -183,13 +183,6 @@ impl Naming {
 
 // ---- an option's head
 
-// How many bytes of an option there are when the next is judged.
-fn until(have: usize) -> usize
-    ensures { result ≡ option_until have }
-{
-    if have < 8 { 8 } else { 16 }
-}
-
 // An option's type and length are there.
 fn payload(zeroes: bool, table: &[u8], option: u32, len: usize) -> Phase
     ensures { (h : List ℕ) → view_of h result ≡ payload zeroes table.now option len }
@@ -288,7 +281,8 @@ pub fn take_option(
     heads::take(
         head,
         have,
-        until(have),
+        8,
+        16,
         input,
         |bytes, k|
             requires { k ≤ 16 }

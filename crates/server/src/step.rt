@@ -20,7 +20,8 @@ impl End for Server {
 
     // What is lent to be read is the table, and the rest the image.
     fn absorb(self, input: &[u8], table: &[u8], image: &mut [u8]) -> Took<Server> {
-        if input.len() == 0 {
+        // A header would be judged again where nothing comes: so the parts ask for some input, by a `requires` each, as no type of slices says it.
+        if input.is_empty() {
             return Took::none(self);
         }
         match self.phase {

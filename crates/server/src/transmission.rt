@@ -14,7 +14,7 @@ ghost use Rattle.server.specs.Session.{
 ghost use Rattle.server.specs.View.{view, view_of, transmission_of};
 ghost use Rattle.server.specs.Ranges.{ranged_serving};
 ghost use Rattle.server.specs.Contract.{owes_output};
-ghost use Rattle.server.specs.Inner.{request_until, Stored, Sent, Absorbed, Emitted};
+ghost use Rattle.server.specs.Inner.{Stored, Sent, Absorbed, Emitted};
 
 use crate::ending::Ending;
 use crate::heads;
@@ -199,13 +199,6 @@ fn begun(e: Export, r: Request, o: Answer) -> Phase
     }
 }
 
-// How many bytes of a request there are when the next is judged.
-fn until(have: usize) -> usize
-    ensures { result ≡ request_until have }
-{
-    if have < 4 { 4 } else { 28 }
-}
-
 // A request's first k bytes are there.
 fn requested(e: Export, head: [u8; 28], k: usize) -> Phase
     requires { k ≤ 28 }
@@ -231,7 +224,8 @@ fn take_header(head: [u8; 28], e: Export, have: usize, input: &[u8]) -> Took<Ser
     heads::take(
         head,
         have,
-        until(have),
+        4,
+        28,
         input,
         |bytes, k|
             requires { k ≤ 28 }

@@ -1,9 +1,10 @@
 -- The phase takes what its leaf takes; an empty input is taken at once, and an ended session takes nothing.
+use borrow.Author.Rules.{rules}
 use Rattle.machine.proofs.Leaves.{absorbs_none, absorbs_idle}
 use Rattle.server.proofs.step.ServerEnd.absorb.Goals as goal
 
-pub returns-then-input-eq0 : goal.returns-then-input-eq0
-returns-then-input-eq0 c = rw c.none.ensures (absorbs_none c.if-input-eq0.true)
+pub returns-then-is_empty : goal.returns-then-is_empty
+returns-then-is_empty c = rw c.none.ensures (absorbs_none (search rules))
 
 pub returns-in-Shaking : goal.returns-in-Shaking
 returns-in-Shaking c = rw c.in-Shaking.is (c.absorb.ensures _)
