@@ -1,4 +1,5 @@
-// Headers: bytes that are gathered in the state, and judged where their magic ends and where they end.
+// Headers: bytes that are gathered in the state, and judged where their magic ends and where they end. The client's are arrays of another length, and
+// no closure takes an array of any length: so each has its own.
 ghost use Rattle.std.specs.Prelude.{◌≡◌, ◌+◌, ◌<◌, ◌≤◌, List, ℕ, ltb};
 ghost use Rattle.machine.specs.Choice.{pick};
 ghost use Rattle.machine.specs.Inner.{Gathered};

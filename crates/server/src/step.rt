@@ -6,7 +6,8 @@ ghost use Rattle.server.specs.Inner.{Good};
 ghost use Rattle.server.specs.Contract.{outcome_of};
 
 use crate::state::{Outcome, Phase, Server};
-use crate::{handshake, ranges, transmission};
+use crate::transmission::Service;
+use crate::{handshake, ranges};
 use machine::ends::{End, Gave, Took};
 
 impl End for Server {
@@ -26,7 +27,10 @@ impl End for Server {
         }
         match self.phase {
             Phase::Shaking(h) => handshake::absorb(self.head, h, table, input),
-            Phase::Serving(e, t) => transmission::absorb(self.head, e, t, input, image),
+            Phase::Serving(export, t) => {
+                let head = self.head;
+                Service { head, export }.absorb(t, input, image)
+            }
             Phase::Over(_) => Took::none(self),
         }
     }
@@ -34,7 +38,10 @@ impl End for Server {
     fn emit(self, room: &mut [u8], _table: &[u8], image: &[u8]) -> Gave<Server> {
         match self.phase {
             Phase::Shaking(h) => handshake::emit(self.head, h, room),
-            Phase::Serving(e, t) => transmission::emit(self.head, e, t, room, image),
+            Phase::Serving(export, t) => {
+                let head = self.head;
+                Service { head, export }.emit(t, room, image)
+            }
             Phase::Over(_) => Gave::none(self),
         }
     }

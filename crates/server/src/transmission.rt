@@ -25,36 +25,7 @@ use machine::parts;
 use wire::table::Export;
 use wire::{consts, fields};
 
-// ---- bytes of the window
-
-impl Sending {
-    fn phase(self, e: Export) -> Phase
-        ensures { (h : List ℕ) → view_of h result ≡ sending e self.off self.left }
-    {
-        if self.left == 0 {
-            Phase::Serving(e, Transmission::Header { have: 0 })
-        } else {
-            Phase::Serving(e, Transmission::Sending(self))
-        }
-    }
-
-    fn give(self, head: [u8; 28], e: Export, window: &[u8], room: &mut [u8]) -> Gave<Server>
-        requires { (0 < self.left) × (self.off + self.left ≤ length window.now) }
-        ensures { Sent e self.off self.left window.now room.old result.given (view result.state) room.new }
-    {
-        let n = self.left.min(room.len());
-        let off = self.off + n;
-        room[..n].copy_from_slice(&window[self.off..off]);
-        let left = self.left - n;
-        let phase = Sending { off, left }.phase(e);
-        Gave {
-            state: Server { phase, head },
-            given: n,
-        }
-    }
-}
-
-// ---- a reply
+// ---- what is sent
 
 fn simple_reply(error: u32, handle: u64) -> [u8; 16]
     ensures { result ≡ simple_reply error handle }
@@ -79,159 +50,233 @@ impl Replying {
             len: 0,
         }
     }
+}
 
-    fn phase(self, e: Export) -> Phase
-        ensures { (h : List ℕ) → view_of h result ≡ replying e self.error self.handle self.left self.off self.len }
+// A session that serves an export, and what is gathered in `head`.
+#[derive(Clone, Copy)]
+pub struct Service {
+    pub head: [u8; 28],
+    pub export: Export,
+}
+
+impl Service {
+    fn at(self, phase: Phase) -> Server
+        ensures { result ≡ record { phase = phase; head = self.head } }
     {
-        if self.left == 0 {
-            let data = Sending {
-                off: self.off,
-                left: self.len,
-            };
-            data.phase(e)
+        let head = self.head;
+        Server { phase, head }
+    }
+
+    // ---- the phases that follow where nothing may be left
+
+    fn sending(self, part: Sending) -> Phase
+        ensures { (h : List ℕ) → view_of h result ≡ sending self.export part.off part.left }
+    {
+        if part.left == 0 {
+            Phase::Serving(self.export, Transmission::Header { have: 0 })
         } else {
-            Phase::Serving(e, Transmission::Replying(self))
+            Phase::Serving(self.export, Transmission::Sending(part))
         }
     }
 
-    fn give(self, head: [u8; 28], e: Export, room: &mut [u8]) -> Gave<Server>
-        requires { (0 < self.left) × (self.left ≤ 16) }
-        ensures { (t m : List ℕ) → Emitted t (Serving e (transmission_of head (Transmission.Replying self))) m room.old result room.new }
+    fn replying(self, reply: Replying) -> Phase
+        ensures { (h : List ℕ) → view_of h result ≡ replying self.export reply.error reply.handle reply.left reply.off reply.len }
     {
-        let bytes = simple_reply(self.error, self.handle);
-        let n = parts::give(&bytes, self.left, room);
-        let left = self.left - n;
-        let phase = Replying { left, ..self }.phase(e);
+        if reply.left == 0 {
+            self.sending(Sending {
+                off: reply.off,
+                left: reply.len,
+            })
+        } else {
+            Phase::Serving(self.export, Transmission::Replying(reply))
+        }
+    }
+
+    fn storing(self, payload: Storing) -> Phase
+        ensures { (h : List ℕ) → view_of h result ≡ storing self.export payload.handle payload.off payload.left }
+    {
+        if payload.left == 0 {
+            self.replying(Replying::new(0, payload.handle))
+        } else {
+            Phase::Serving(self.export, Transmission::Storing(payload))
+        }
+    }
+
+    fn dropping(self, payload: Dropping) -> Phase
+        ensures { (h : List ℕ) → view_of h result ≡ dropping self.export payload.error payload.handle payload.left }
+    {
+        if payload.left == 0 {
+            self.replying(Replying::new(payload.error, payload.handle))
+        } else {
+            Phase::Serving(self.export, Transmission::Dropping(payload))
+        }
+    }
+
+    // ---- what is judged
+
+    // What a request that is owed o sets off.
+    fn begun(self, r: Request, o: Answer) -> Phase
+        ensures { (h : List ℕ) → view_of h result ≡ begun self.export r o }
+    {
+        let handle = r.handle;
+        let off = r.offset as usize;
+        let len = r.len as usize;
+        match o {
+            Answer::Silence => self.sending(Sending { off: 0, left: 0 }),
+            Answer::Reply(error) => self.replying(Replying::new(error, handle)),
+            Answer::Data => self.replying(Replying {
+                off,
+                len,
+                ..Replying::new(0, handle)
+            }),
+            Answer::Store => self.storing(Storing {
+                handle,
+                off,
+                left: len,
+            }),
+            Answer::Swallow(error) => self.dropping(Dropping {
+                error,
+                handle,
+                left: len,
+            }),
+            Answer::End(n) => Phase::Over(n),
+        }
+    }
+
+    // A request's first k bytes are there.
+    fn requested(self, bytes: [u8; 28], k: usize) -> Phase
+        requires { k ≤ 28 }
+        ensures { view_of bytes result ≡ requested self.export (take k bytes) }
+    {
+        if k == 4 {
+            if fields::read_u32(&bytes, 0) == consts::NBD_REQUEST_MAGIC {
+                return Phase::Serving(self.export, Transmission::Header { have: 4 });
+            }
+            return Phase::Over(Ending::RequestMagic as u8);
+        }
+        if k < 28 {
+            return Phase::Serving(self.export, Transmission::Header { have: k });
+        }
+        let r = Request::from(&bytes);
+        self.begun(r, r.owed(self.export))
+    }
+
+    // ---- one leaf for each phase
+
+    fn take_header(self, have: usize, input: &[u8]) -> Took<Server>
+        requires { (have < 28) × (0 < length input.now) }
+        ensures { (t m : List ℕ) → Absorbed t (Serving self.export (Header (take have self.head))) m input.now result m }
+    {
+        heads::take(
+            self.head,
+            have,
+            4,
+            28,
+            input,
+            |bytes, k|
+                requires { k ≤ 28 }
+                ensures { view_of bytes result ≡ requested self.export (take k bytes) }
+            { self.requested(bytes, k) },
+        )
+    }
+
+    // Payload into the window.
+    fn store(self, payload: Storing, input: &[u8], window: &mut [u8]) -> Took<Server>
+        requires { (0 < payload.left) × (payload.off + payload.left ≤ length window.old) }
+        ensures { Stored self.export payload.handle payload.off payload.left input.now window.old result.taken (view result.state) window.new }
+    {
+        let n = payload.left.min(input.len());
+        let off = payload.off + n;
+        window[payload.off..off].copy_from_slice(&input[..n]);
+        let left = payload.left - n;
+        let phase = self.storing(Storing {
+            off,
+            left,
+            ..payload
+        });
+        Took {
+            state: self.at(phase),
+            taken: n,
+        }
+    }
+
+    // Of a payload that is refused as many of `count` bytes as are left.
+    fn discard(self, payload: Dropping, count: usize) -> Took<Server>
+        requires { 0 < payload.left }
+        ensures { (t m input : List ℕ) → length input ≡ count
+            → Absorbed t (Serving self.export (transmission_of self.head (Transmission.Dropping payload))) m input result m }
+    {
+        let n = payload.left.min(count);
+        let left = payload.left - n;
+        Took {
+            state: self.at(self.dropping(Dropping { left, ..payload })),
+            taken: n,
+        }
+    }
+
+    fn reply(self, reply: Replying, room: &mut [u8]) -> Gave<Server>
+        requires { (0 < reply.left) × (reply.left ≤ 16) }
+        ensures { (t m : List ℕ) → Emitted t (Serving self.export (transmission_of self.head (Transmission.Replying reply))) m room.old result room.new }
+    {
+        let bytes = simple_reply(reply.error, reply.handle);
+        let n = parts::give(&bytes, reply.left, room);
+        let left = reply.left - n;
         Gave {
-            state: Server { phase, head },
+            state: self.at(self.replying(Replying { left, ..reply })),
             given: n,
         }
     }
-}
 
-// ---- a payload
-
-impl Storing {
-    fn phase(self, e: Export) -> Phase
-        ensures { (h : List ℕ) → view_of h result ≡ storing e self.handle self.off self.left }
+    // Bytes of the window.
+    fn send(self, part: Sending, window: &[u8], room: &mut [u8]) -> Gave<Server>
+        requires { (0 < part.left) × (part.off + part.left ≤ length window.now) }
+        ensures { Sent self.export part.off part.left window.now room.old result.given (view result.state) room.new }
     {
-        if self.left == 0 {
-            Replying::new(0, self.handle).phase(e)
-        } else {
-            Phase::Serving(e, Transmission::Storing(self))
+        let n = part.left.min(room.len());
+        let off = part.off + n;
+        room[..n].copy_from_slice(&window[part.off..off]);
+        let left = part.left - n;
+        Gave {
+            state: self.at(self.sending(Sending { off, left })),
+            given: n,
         }
     }
 
-    // Takes of the input as many bytes as are left.
-    fn take(self, head: [u8; 28], e: Export, input: &[u8], window: &mut [u8]) -> Took<Server>
-        requires { (0 < self.left) × (self.off + self.left ≤ length window.old) }
-        ensures { Stored e self.handle self.off self.left input.now window.old result.taken (view result.state) window.new }
+    // ---- the phases put together
+
+    // Takes what the phase takes of the input.
+    pub fn absorb(self, p: Transmission, input: &[u8], image: &mut [u8]) -> Took<Server>
+        requires { (0 < length input.now) × (ranged_serving self.export (transmission_of self.head p) ≡ true)
+            × (self.export.start + self.export.size ≤ length image.old) }
+        ensures { (t : List ℕ) → Absorbed t (Serving self.export (transmission_of self.head p)) image.old input.now result image.new }
     {
-        let n = self.left.min(input.len());
-        let off = self.off + n;
-        window[self.off..off].copy_from_slice(&input[..n]);
-        let left = self.left - n;
-        let phase = Storing { off, left, ..self }.phase(e);
-        Took {
-            state: Server { phase, head },
-            taken: n,
+        match p {
+            Transmission::Header { have } => self.take_header(have, input),
+            Transmission::Storing(payload) => {
+                let a = self.export.start as usize;
+                let b = a + self.export.size as usize;
+                self.store(payload, input, &mut image[a..b])
+            }
+            Transmission::Dropping(payload) => self.discard(payload, input.len()),
+            _ => Took::none(self.at(Phase::Serving(self.export, p))),
         }
     }
-}
 
-impl Dropping {
-    fn phase(self, e: Export) -> Phase
-        ensures { (h : List ℕ) → view_of h result ≡ dropping e self.error self.handle self.left }
+    // Gives what the phase owes into the room.
+    pub fn emit(self, p: Transmission, room: &mut [u8], image: &[u8]) -> Gave<Server>
+        requires { (ranged_serving self.export (transmission_of self.head p) ≡ true) × (self.export.start + self.export.size ≤ length image.now) }
+        ensures { (t : List ℕ) → Emitted t (Serving self.export (transmission_of self.head p)) image.now room.old result room.new }
     {
-        if self.left == 0 {
-            Replying::new(self.error, self.handle).phase(e)
-        } else {
-            Phase::Serving(e, Transmission::Dropping(self))
+        match p {
+            Transmission::Replying(reply) => self.reply(reply, room),
+            Transmission::Sending(part) => {
+                let a = self.export.start as usize;
+                let b = a + self.export.size as usize;
+                self.send(part, &image[a..b], room)
+            }
+            _ => Gave::none(self.at(Phase::Serving(self.export, p))),
         }
     }
-
-    // Takes of `count` bytes as many as are left.
-    fn take(self, head: [u8; 28], e: Export, count: usize) -> Took<Server>
-        requires { 0 < self.left }
-        ensures { (t m input : List ℕ) → length input ≡ count → Absorbed t (Serving e (transmission_of head (Transmission.Dropping self))) m input result m }
-    {
-        let n = self.left.min(count);
-        let left = self.left - n;
-        let phase = Dropping { left, ..self }.phase(e);
-        Took {
-            state: Server { phase, head },
-            taken: n,
-        }
-    }
-}
-
-// ---- a request
-
-// What a request that is owed o sets off.
-fn begun(e: Export, r: Request, o: Answer) -> Phase
-    ensures { (h : List ℕ) → view_of h result ≡ begun e r o }
-{
-    let handle = r.handle;
-    let off = r.offset as usize;
-    let len = r.len as usize;
-    match o {
-        Answer::Silence => Phase::Serving(e, Transmission::Header { have: 0 }),
-        Answer::Reply(error) => Replying::new(error, handle).phase(e),
-        Answer::Data => Replying {
-            off,
-            len,
-            ..Replying::new(0, handle)
-        }
-        .phase(e),
-        Answer::Store => Storing {
-            handle,
-            off,
-            left: len,
-        }
-        .phase(e),
-        Answer::Swallow(error) => Dropping {
-            error,
-            handle,
-            left: len,
-        }
-        .phase(e),
-        Answer::End(n) => Phase::Over(n),
-    }
-}
-
-// A request's first k bytes are there.
-fn requested(e: Export, head: [u8; 28], k: usize) -> Phase
-    requires { k ≤ 28 }
-    ensures { view_of head result ≡ requested e (take k head) }
-{
-    if k == 4 {
-        if fields::read_u32(&head, 0) == consts::NBD_REQUEST_MAGIC {
-            return Phase::Serving(e, Transmission::Header { have: 4 });
-        }
-        return Phase::Over(Ending::RequestMagic as u8);
-    }
-    if k < 28 {
-        return Phase::Serving(e, Transmission::Header { have: k });
-    }
-    let r = Request::from(&head);
-    begun(e, r, r.owed(e))
-}
-
-fn take_header(head: [u8; 28], e: Export, have: usize, input: &[u8]) -> Took<Server>
-    requires { (have < 28) × (0 < length input.now) }
-    ensures { (t m : List ℕ) → Absorbed t (Serving e (Header (take have head))) m input.now result m }
-{
-    heads::take(
-        head,
-        have,
-        4,
-        28,
-        input,
-        |bytes, k|
-            requires { k ≤ 28 }
-            ensures { view_of bytes result ≡ requested e (take k bytes) }
-        { requested(e, bytes, k) },
-    )
 }
 
 // Whether output is owed.
@@ -239,57 +284,4 @@ pub fn owes(p: Transmission) -> bool
     ensures { (h : List ℕ) (e : Export) → result ≡ owes_output (Serving e (transmission_of h p)) }
 {
     matches!(p, Transmission::Replying(_) | Transmission::Sending(_))
-}
-
-// ---- the phases put together
-
-// Takes what the phase takes of the input.
-pub fn absorb(
-    head: [u8; 28],
-    e: Export,
-    p: Transmission,
-    input: &[u8],
-    image: &mut [u8],
-) -> Took<Server>
-    requires { (0 < length input.now) × (ranged_serving e (transmission_of head p) ≡ true) × (e.start + e.size ≤ length image.old) }
-    ensures { (t : List ℕ) → Absorbed t (Serving e (transmission_of head p)) image.old input.now result image.new }
-{
-    match p {
-        Transmission::Header { have } => take_header(head, e, have, input),
-        Transmission::Storing(payload) => {
-            let a = e.start as usize;
-            let b = a + e.size as usize;
-            payload.take(head, e, input, &mut image[a..b])
-        }
-        Transmission::Dropping(payload) => payload.take(head, e, input.len()),
-        _ => Took::none(Server {
-            phase: Phase::Serving(e, p),
-            head,
-        }),
-    }
-}
-
-// Gives what the phase owes into the room.
-pub fn emit(
-    head: [u8; 28],
-    e: Export,
-    p: Transmission,
-    room: &mut [u8],
-    image: &[u8],
-) -> Gave<Server>
-    requires { (ranged_serving e (transmission_of head p) ≡ true) × (e.start + e.size ≤ length image.now) }
-    ensures { (t : List ℕ) → Emitted t (Serving e (transmission_of head p)) image.now room.old result room.new }
-{
-    match p {
-        Transmission::Replying(reply) => reply.give(head, e, room),
-        Transmission::Sending(data) => {
-            let a = e.start as usize;
-            let b = a + e.size as usize;
-            data.give(head, e, &image[a..b], room)
-        }
-        _ => Gave::none(Server {
-            phase: Phase::Serving(e, p),
-            head,
-        }),
-    }
 }

@@ -2,7 +2,7 @@
 use mathlib.Core.Path.{sym, ◌∙◌}
 use borrow.Author.Rules.{rules}
 use Rattle.server.proofs.Header.{request_magic, request_other, request_part, request_whole}
-use Rattle.server.proofs.transmission.requested.Goals as goal
+use Rattle.server.proofs.transmission.Service.requested.Goals as goal
 
 pub returns-then-read_u32-eq-NBD_REQUEST_MAGIC : goal.returns-then-read_u32-eq-NBD_REQUEST_MAGIC
 returns-then-read_u32-eq-NBD_REQUEST_MAGIC c = request_magic _ _ _ (search rules) c.if-k-eq4.true (sym c.read_u32.ensures ∙ c.if-read_u32-eq-NBD_REQUEST_MAGIC.true)
