@@ -54,6 +54,7 @@ fn judge_flags(head: [u8; 28], k: usize) -> Phase
 
 // ---- what is sent
 
+#[tactic(auto, unfolding(wire::specs::Fields::be, wire::specs::Layouts::greeting))]
 fn greeting() -> [u8; 134]
     ensures { take 18 result ≡ greeting }
 {

@@ -9,6 +9,7 @@ use wire::{consts, fields};
 #[derive(Clone, Copy, Debug, PartialEq, Eq)]
 pub struct NoRoom;
 
+#[tactic(auto, unfolding(wire::specs::Fields::be, wire::specs::Layouts::oldstyle_header))]
 fn header(size: u64, flags: u32) -> [u8; 152]
     ensures { result ≡ oldstyle_header size flags }
 {

@@ -133,6 +133,7 @@ impl Passing {
 
 impl Naming {
     // The export with that name, once all of it has been taken.
+    #[tactic(auto, unfolding(crate::specs::Session::named))]
     fn named(self, table: &[u8]) -> Phase
         ensures { (h : List ℕ) → view_of h result ≡ named self.zeroes table.now (set_of self.fits) self.text }
     {
@@ -184,6 +185,7 @@ impl Naming {
 // ---- an option's head
 
 // An option's type and length are there.
+#[tactic(auto, unfolding(crate::specs::Session::payload))]
 fn payload(zeroes: bool, table: &[u8], option: u32, len: usize) -> Phase
     ensures { (h : List ℕ) → view_of h result ≡ payload zeroes table.now option len }
 {
@@ -232,6 +234,7 @@ fn judge_option(zeroes: bool, table: &[u8], head: [u8; 28], k: usize) -> Phase
 // ---- what is sent: each reply in front of zeros, in as many bytes as the longest has
 
 // An option reply's fields before its data, which has len bytes.
+#[tactic(auto, unfolding(wire::specs::Fields::be, wire::specs::Layouts::option_reply_head))]
 pub fn option_reply(option: u32, typ: u32, len: u32) -> [u8; 134]
     ensures { take 20 result ≡ option_reply_head option typ len }
 {
@@ -243,6 +246,7 @@ pub fn option_reply(option: u32, typ: u32, len: u32) -> [u8; 134]
     bytes
 }
 
+#[tactic(auto, unfolding(wire::specs::Fields::be, wire::specs::Layouts::option_reply, wire::specs::Layouts::option_reply_head, crate::specs::Session::list_replies))]
 pub fn list_replies() -> [u8; 134]
     ensures { take 51 result ≡ list_replies }
 {
@@ -257,6 +261,7 @@ pub fn list_replies() -> [u8; 134]
 }
 
 // The reply to EXPORT_NAME, with its 124 zeros.
+#[tactic(auto, unfolding(wire::specs::Fields::be, wire::specs::Layouts::export_reply))]
 pub fn export_reply(export: Export) -> [u8; 134]
     ensures { result ≡ exported true export }
 {

@@ -27,6 +27,7 @@ use wire::{consts, fields};
 
 // ---- what is sent
 
+#[tactic(auto, unfolding(wire::specs::Fields::be, wire::specs::Layouts::simple_reply))]
 fn simple_reply(error: u32, handle: u64) -> [u8; 16]
     ensures { result ≡ simple_reply error handle }
 {
