@@ -18,128 +18,127 @@ ghost use Rattle.client.specs.Inner.{GoodCall};
 use crate::state::{Call, Device, SeekFrom, Value};
 use wire::{consts, fields, number};
 
-// ---- before a call is opened
+impl Device {
+    // ---- before a call is opened
 
-// How many bytes a read, a write or a trim of k bytes moves. None where the position is past the size.
-#[tactic(auto, unfolding(crate::specs::Calls::transfer))]
-pub fn transfer(d: Device, k: u64) -> Option<u32>
-    ensures { result ≡ transfer d k }
-{
-    if d.position == d.size {
-        return Some(0);
+    // How many bytes a read, a write or a trim of k bytes moves. None where the position is past the size.
+    #[tactic(auto, unfolding(crate::specs::Calls::transfer))]
+    pub(crate) fn transfer(self, k: u64) -> Option<u32>
+        ensures { result ≡ transfer self k }
+    {
+        let rest = self.size.checked_sub(self.position)?;
+        Some(number::clamp_to_u32(k.min(rest)))
     }
-    if d.size < d.position {
-        return None;
+
+    // Where a seek leads.
+    pub(crate) fn sought(self, from: SeekFrom) -> Option<u64>
+        ensures { result ≡ sought self from }
+    {
+        match from {
+            SeekFrom::Start(p) => Some(p),
+            SeekFrom::Current(z) => number::checked_add_i64(self.position, z),
+            SeekFrom::End(z) => number::checked_add_i64(self.size, z),
+        }
     }
-    Some(number::clamp_to_u32(k.min(d.size - d.position)))
-}
 
-// Where a seek leads.
-pub fn sought(d: Device, from: SeekFrom) -> Option<u64>
-    ensures { result ≡ sought d from }
-{
-    match from {
-        SeekFrom::Start(p) => Some(p),
-        SeekFrom::Current(z) => number::checked_add_i64(d.position, z),
-        SeekFrom::End(z) => number::checked_add_i64(d.size, z),
+    // ---- after a call that succeeds
+
+    pub(crate) fn positioned(self, p: u64) -> Device
+        ensures { result ≡ positioned self p }
+    {
+        Device {
+            position: p,
+            ..self
+        }
     }
-}
 
-// ---- what a call names, sends and is sent
-
-pub fn amount(c: Call) -> u32
-    ensures { result ≡ amount c }
-{
-    match c {
-        Call::Read { n, .. } => n,
-        Call::Write { n, .. } => n,
-        Call::Trim { n } => n,
-        _ => 0,
-    }
-}
-
-pub fn payload(c: Call) -> u32
-    ensures { result ≡ payload c }
-{
-    match c {
-        Call::Write { n, .. } => n,
-        _ => 0,
-    }
-}
-
-pub fn wanted(c: Call) -> u32
-    ensures { result ≡ wanted c }
-{
-    match c {
-        Call::Read { n, .. } => n,
-        _ => 0,
+    pub(crate) fn moved(self, c: Call) -> Device
+        requires { GoodCall self c }
+        ensures { result ≡ moved self c }
+    {
+        match c {
+            Call::Read { n, .. } | Call::Write { n, .. } => {
+                self.positioned(self.position + n as u64)
+            }
+            Call::Resize { size } => Device { size, ..self },
+            _ => self,
+        }
     }
 }
 
-fn type_of(c: Call) -> u16
-    ensures { result ≡ type_of c }
-{
-    match c {
-        Call::Read { .. } => consts::NBD_CMD_READ,
-        Call::Write { .. } => consts::NBD_CMD_WRITE,
-        Call::Flush => consts::NBD_CMD_FLUSH,
-        Call::Trim { .. } => consts::NBD_CMD_TRIM,
-        Call::Resize { .. } => consts::NBD_CMD_RESIZE,
+impl Call {
+    // ---- what it names, sends and is sent
+
+    pub(crate) fn amount(self) -> u32
+        ensures { result ≡ amount self }
+    {
+        match self {
+            Call::Read { n, .. } | Call::Write { n, .. } | Call::Trim { n } => n,
+            _ => 0,
+        }
     }
-}
 
-fn offset_of(d: Device, c: Call) -> u64
-    ensures { result ≡ offset_of d c }
-{
-    match c {
-        Call::Read { .. } => d.position,
-        Call::Write { .. } => d.position,
-        Call::Flush => 0,
-        Call::Trim { .. } => d.position,
-        Call::Resize { size } => size,
+    pub(crate) fn payload(self) -> u32
+        ensures { result ≡ payload self }
+    {
+        match self {
+            Call::Write { n, .. } => n,
+            _ => 0,
+        }
     }
-}
 
-// A request; its flags and its handle are 0.
-#[tactic(auto, unfolding(wire::specs::Layouts::request, wire::specs::Fields::be))]
-pub fn request_bytes(d: Device, c: Call) -> [u8; 28]
-    ensures { result ≡ request_bytes d c }
-{
-    let mut bytes = [0u8; 28];
-    fields::write_u32(&mut bytes, 0, consts::NBD_REQUEST_MAGIC);
-    fields::write_u16(&mut bytes, 6, type_of(c));
-    fields::write_u64(&mut bytes, 16, offset_of(d, c));
-    fields::write_u32(&mut bytes, 24, amount(c));
-    bytes
-}
-
-// ---- a call that succeeds
-
-pub fn positioned(d: Device, p: u64) -> Device
-    ensures { result ≡ positioned d p }
-{
-    Device { position: p, ..d }
-}
-
-pub fn value_of(c: Call) -> Value
-    ensures { result ≡ value_of c }
-{
-    match c {
-        Call::Read { n, .. } => Value::Bytes(n),
-        Call::Write { n, .. } => Value::Bytes(n),
-        _ => Value::Nothing,
+    pub(crate) fn wanted(self) -> u32
+        ensures { result ≡ wanted self }
+    {
+        match self {
+            Call::Read { n, .. } => n,
+            _ => 0,
+        }
     }
-}
 
-// The device after a call that succeeds.
-pub fn moved(d: Device, c: Call) -> Device
-    requires { GoodCall d c }
-    ensures { result ≡ moved d c }
-{
-    match c {
-        Call::Read { n, .. } => positioned(d, d.position + n as u64),
-        Call::Write { n, .. } => positioned(d, d.position + n as u64),
-        Call::Resize { size } => Device { size, ..d },
-        _ => d,
+    fn type_of(self) -> u16
+        ensures { result ≡ type_of self }
+    {
+        match self {
+            Call::Read { .. } => consts::NBD_CMD_READ,
+            Call::Write { .. } => consts::NBD_CMD_WRITE,
+            Call::Flush => consts::NBD_CMD_FLUSH,
+            Call::Trim { .. } => consts::NBD_CMD_TRIM,
+            Call::Resize { .. } => consts::NBD_CMD_RESIZE,
+        }
+    }
+
+    fn offset_of(self, d: Device) -> u64
+        ensures { result ≡ offset_of d self }
+    {
+        match self {
+            Call::Read { .. } | Call::Write { .. } | Call::Trim { .. } => d.position,
+            Call::Flush => 0,
+            Call::Resize { size } => size,
+        }
+    }
+
+    // Its request on this device; the flags and the handle are 0.
+    #[tactic(auto, unfolding(wire::specs::Layouts::request, wire::specs::Fields::be))]
+    pub(crate) fn request_bytes(self, d: Device) -> [u8; 28]
+        ensures { result ≡ request_bytes d self }
+    {
+        let mut bytes = [0u8; 28];
+        fields::write_u32(&mut bytes, 0, consts::NBD_REQUEST_MAGIC);
+        fields::write_u16(&mut bytes, 6, self.type_of());
+        fields::write_u64(&mut bytes, 16, self.offset_of(d));
+        fields::write_u32(&mut bytes, 24, self.amount());
+        bytes
+    }
+
+    // ---- what a success gives
+
+    pub(crate) fn value_of(self) -> Value
+        ensures { result ≡ value_of self }
+    {
+        match self {
+            Call::Read { n, .. } | Call::Write { n, .. } => Value::Bytes(n),
+            _ => Value::Nothing,
+        }
     }
 }

@@ -102,8 +102,8 @@ fn opened(d: Device, c: Call) -> Called
 fn begun(d: Device, c: Call) -> Called
     ensures { result ≡ begun d c }
 {
-    if calls::amount(c) == 0 {
-        ready(d, calls::value_of(c))
+    if c.amount() == 0 {
+        ready(d, c.value_of())
     } else {
         opened(d, c)
     }
@@ -169,7 +169,7 @@ impl Client {
         ensures { result ≡ granted k self }
     {
         let device = self.call_check()?;
-        let n = calls::transfer(device, k).ok_or(Refusal::PastSize)?;
+        let n = device.transfer(k).ok_or(Refusal::PastSize)?;
         Ok(Transfer { device, n })
     }
 
@@ -237,8 +237,8 @@ impl Client {
     pub fn seek(self, from: SeekFrom) -> Called
         ensures { result ≡ seeking from self }
     {
-        self.called(|d| match calls::sought(d, from) {
-            Some(p) => ready(calls::positioned(d, p), Value::Position(p)),
+        self.called(|d| match d.sought(from) {
+            Some(p) => ready(d.positioned(p), Value::Position(p)),
             None => refused(self, Refusal::SeekOutside),
         })
     }
@@ -270,9 +270,7 @@ impl Client {
             return None;
         }
         match self.phase {
-            Phase::Ready(d) => Some(d),
-            Phase::Calling(d, _, _) => Some(d),
-            Phase::Closed(_, d) => Some(d),
+            Phase::Ready(d) | Phase::Calling(d, _, _) | Phase::Closed(_, d) => Some(d),
             _ => None,
         }
     }

@@ -15,9 +15,9 @@ ghost use Rattle.client.specs.Ranges.{
   refusal_of,
 };
 
+use crate::handshake;
 use crate::refusal::Refusal;
 use crate::state::{Call, Client, Device, Handshake, Phase, Progress};
-use crate::{calls, handshake};
 use machine::parts;
 use machine::tests::within;
 
@@ -27,8 +27,7 @@ fn ranged_shaking(head: [u8; 16], name: usize, p: Handshake) -> bool
     ensures { result ≡ ranged_shaking name (handshake_of head p) }
 {
     match p {
-        Handshake::Magic { have } => have < 8,
-        Handshake::Style { have } => have < 8,
+        Handshake::Magic { have } | Handshake::Style { have } => have < 8,
         Handshake::Newstyle { left } => (1..=2).contains(&left),
         Handshake::Hello { left } => (1..=20).contains(&left),
         Handshake::Naming { left } => (1..=name).contains(&left),
@@ -48,8 +47,7 @@ fn ranged_call(d: Device, c: Call) -> bool
     ensures { result ≡ ranged_call d c }
 {
     match c {
-        Call::Read { n, len } => n as usize <= len && part(d, n),
-        Call::Write { n, len } => n as usize <= len && part(d, n),
+        Call::Read { n, len } | Call::Write { n, len } => n as usize <= len && part(d, n),
         Call::Trim { n } => part(d, n),
         _ => true,
     }
@@ -60,9 +58,9 @@ fn ranged_progress(head: [u8; 16], c: Call, p: Progress) -> bool
 {
     match p {
         Progress::Asking { left } => (1..=28).contains(&left),
-        Progress::Paying { left } => (1..=calls::payload(c) as usize).contains(&left),
+        Progress::Paying { left } => (1..=c.payload() as usize).contains(&left),
         Progress::Hearing { have } => have < 16,
-        Progress::Filling { left } => (1..=calls::wanted(c) as usize).contains(&left),
+        Progress::Filling { left } => (1..=c.wanted() as usize).contains(&left),
     }
 }
 
@@ -91,9 +89,9 @@ fn used_shaking(p: Handshake) -> usize
     ensures { result ≡ used_shaking p }
 {
     match p {
-        Handshake::Magic { have } => have,
-        Handshake::Style { have } => have,
-        Handshake::SizeAndFlags { have, .. } => have,
+        Handshake::Magic { have }
+        | Handshake::Style { have }
+        | Handshake::SizeAndFlags { have, .. } => have,
         _ => 0,
     }
 }
@@ -131,8 +129,7 @@ fn lent_to(c: Call) -> usize
     ensures { result ≡ lent_to c }
 {
     match c {
-        Call::Read { len, .. } => len,
-        Call::Write { len, .. } => len,
+        Call::Read { len, .. } | Call::Write { len, .. } => len,
         _ => 0,
     }
 }

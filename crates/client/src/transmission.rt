@@ -19,8 +19,8 @@ ghost use Rattle.client.specs.Ranges.{lent_to, ranged_call};
 ghost use Rattle.client.specs.Inner.{Some, GoodProgress, Absorbed, Emitted};
 
 use crate::ending::Ending;
+use crate::heads;
 use crate::state::{Call, Client, Device, Outcome, Phase, Progress};
-use crate::{calls, heads};
 use machine::ends::{Gave, Took};
 use machine::{copy, parts};
 use wire::{consts, fields};
@@ -53,11 +53,8 @@ impl Exchange {
     fn done(self) -> Phase
         ensures { (h : List ℕ) → view_of h result ≡ done self.device self.call }
     {
-        let value = calls::value_of(self.call);
-        Phase::Closed(
-            Outcome::Succeeded(value),
-            calls::moved(self.device, self.call),
-        )
+        let value = self.call.value_of();
+        Phase::Closed(Outcome::Succeeded(value), self.device.moved(self.call))
     }
 
     fn filling(self, left: usize) -> Phase
@@ -84,7 +81,7 @@ impl Exchange {
         ensures { (h : List ℕ) → view_of h result ≡ after_request self.device self.call left }
     {
         if left == 0 {
-            self.paying(calls::payload(self.call) as usize)
+            self.paying(self.call.payload() as usize)
         } else {
             self.calling(Progress::Asking { left })
         }
@@ -107,7 +104,7 @@ impl Exchange {
             return Phase::Over(Ending::Handle as u8);
         }
         if error == 0 {
-            self.filling(calls::wanted(self.call) as usize)
+            self.filling(self.call.wanted() as usize)
         } else {
             Phase::Closed(Outcome::Failed(error), self.device)
         }
@@ -131,7 +128,7 @@ impl Exchange {
         requires { Some 28 left }
         ensures { (m : List ℕ) → Emitted (Calling self.device self.call (Asking left)) m room.old result room.new }
     {
-        let bytes = calls::request_bytes(self.device, self.call);
+        let bytes = self.call.request_bytes(self.device);
         let n = parts::give(&bytes, left, room);
         Gave {
             state: self.at(self.after_request(left - n)),
@@ -144,7 +141,7 @@ impl Exchange {
         requires { (payload self.call ≤ length lent.now) × Some (payload self.call) left }
         ensures { Emitted (Calling self.device self.call (Paying left)) lent.now room.old result room.new }
     {
-        let all = calls::payload(self.call) as usize;
+        let all = self.call.payload() as usize;
         let n = parts::give(&lent[..all], left, room);
         Gave {
             state: self.at(self.paying(left - n)),
@@ -173,7 +170,7 @@ impl Exchange {
         requires { (wanted self.call ≤ length lent.old) × Some (wanted self.call) left }
         ensures { Absorbed (Calling self.device self.call (Filling left)) lent.old input.now result lent.new }
     {
-        let all = calls::wanted(self.call) as usize;
+        let all = self.call.wanted() as usize;
         let n = left.min(input.len());
         copy::copy_part(input, 0, lent, all - left, n);
         Took {
