@@ -246,7 +246,6 @@ pub fn option_reply(option: u32, typ: u32, len: u32) -> [u8; 134]
     bytes
 }
 
-#[tactic(auto, unfolding(wire::specs::Fields::be, wire::specs::Layouts::option_reply, wire::specs::Layouts::option_reply_head, crate::specs::Session::list_replies))]
 pub fn list_replies() -> [u8; 134]
     ensures { take 51 result ≡ list_replies }
 {
