@@ -3,14 +3,13 @@
 --   part_waits     so the state waits with the bytes that are there
 --   magic_.., style_.., terms_.., reply_whole         all are there
 --   take_part      a part of the first bytes is a part of all
---   taken_below, test_below    fewer bytes than there are
+--   taken_below    fewer bytes than there are
 use Prim.Native.Nat.{ℕ, zero, suc, ◌+◌, ◌≤◌, ◌<◌}
 use mathlib.Core.Path.{◌≡◌, refl, sym}
 use mathlib.Core.Bool.{Bool, true, false}
 use mathlib.Core.List.{List, [], ◌∷◌}
 use native.Mathlib.Omega.{arith}
-use borrow.Author.Tests.{lt-ltb, le-ltb, ltb-true, ltb-false}
-use lib.Dec.{ltb}
+use borrow.Author.Tests.{lt-ltb}
 use lib.ListN.{length, take, drop, length-take}
 use lib.Seq.{length-take-le, take-take, take_all}
 use Rattle.wire.specs.Fields.{field, same_bytes}
@@ -27,13 +26,6 @@ take_part (suc i) n (suc k) (x ∷ l) h = take_part i n k l (omega arith)
 
 pub taken_below : (h : List ℕ) (k to : ℕ) → to ≤ length h → length (take k h) < to → k < to
 taken_below h k to fits below = omega (arith, length-take k h)
-
-pub test_below : (h : List ℕ) (k to : ℕ) → to ≤ length h → ltb k to ≡ ltb (length (take k h)) to
-test_below h k to fits = go (ltb k to) refl
-  where
-    go : (b : Bool) → ltb k to ≡ b → b ≡ ltb (length (take k h)) to
-    go true e = let q = ltb-true k to e in sym (lt-ltb (length (take k h)) to (omega (arith, length-take k h)))
-    go false e = let q = ltb-false k to e in sym (le-ltb (length (take k h)) to (omega (arith, length-take k h)))
 
 -- ---- more are to come
 pub magic_part : (n : ℕ) (h : List ℕ) → length h < 8 → judge_magic n h ≡ Shaking n (Magic h)

@@ -16,7 +16,6 @@
 --   number_at, values_at         01's number and values for each place where a step ends
 --   Refuses, Accepts, Drives   a step: refused, with nothing changed; or as far as the input and the room go; and which of the two
 use Rattle.std.specs.Prelude.{ℕ, ◌≡◌, List, [], ◌∷◌, eqb, leb, length, Result, Ok, Err, Option, None, Some}
-use Rattle.std.specs.Prelude as told
 use Rattle.machine.specs.Choice.{pick}
 use Rattle.machine.specs.Machine.{on}
 use Rattle.machine.specs.Pieces.{Steps}
@@ -164,16 +163,16 @@ abbrev pub end_of_input : Client → Called
 end_of_input s = pick (in_range s) (ended_at s (view s)) (refused 53 s)
 
 -- ---- what a user asks
-abbrev pub known_at : State → told.Option Device
-known_at Blank = told.None
-known_at (Shaking n p) = told.None
-known_at (Ready d) = told.Some d
-known_at (Calling d c p) = told.Some d
-known_at (Closed o d) = told.Some d
-known_at (Over n) = told.None
+abbrev pub known_at : State → Option Device
+known_at Blank = None
+known_at (Shaking n p) = None
+known_at (Ready d) = Some d
+known_at (Calling d c p) = Some d
+known_at (Closed o d) = Some d
+known_at (Over n) = None
 
-abbrev pub known : Client → told.Option Device
-known s = pick (in_range s) (known_at (view s)) told.None
+abbrev pub known : Client → Option Device
+known s = pick (in_range s) (known_at (view s)) None
 
 -- ---- a step
 -- where a client stands after it: a result is told once and not remembered

@@ -1,4 +1,5 @@
-// Headers: bytes that are gathered in the state, and judged when all are there.
+// Headers: bytes that are gathered in the state, and judged when all are there. The server's are arrays of another length, and no closure takes an
+// array of any length: so each has its own.
 ghost use Rattle.std.specs.Prelude.{List, ℕ, ◌+◌, ◌≤◌};
 ghost use Rattle.machine.specs.Inner.{Gathered};
 

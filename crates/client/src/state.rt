@@ -1,4 +1,5 @@
-// Where a session stands. The phases are named as in specs/Session.antt; docs/STATES.md has their ranges.
+// Where a session stands. The phases are named as in specs/Session.antt; docs/STATES.md has their ranges. A host may hand in any values, which a call
+// then refuses (ranges.rt): so no type here keeps a range, and the number of an end or of a refusal is a plain number.
 
 // What the export's flags say.
 #[derive(Clone, Copy)]
@@ -111,11 +112,10 @@ pub enum Phase {
     Calling(Device, Call, Progress),
     // only inside a step, at its end: a call or the handshake was just closed
     Closed(Outcome, Device),
-    // with 01's number. A number and no enum, since the host hands states in, and one that ends no session has to be refused
     Over(u8),
 }
 
-// The bytes of `head` that the phase does not use are 0. An array, and no Vec: hundreds of sessions run in fixed memory.
+// The bytes of `head` that the phase does not use are 0. They stand in an array, as the memory of a session is fixed: there is no heap.
 #[derive(Clone, Copy)]
 pub struct Client {
     pub phase: Phase,
