@@ -39,7 +39,7 @@ ghost use Rattle.client.specs.Contract.{
 ghost use Rattle.client.specs.declared.state.Device.{Device};
 ghost use Rattle.client.specs.declared.Called.{Called};
 ghost use Rattle.client.specs.declared.state.Outcome.TheVariants as outcome;
-ghost use Rattle.client.specs.declared.state.Call.TheVariants as calls;
+ghost use Rattle.client.specs.declared.state.Call.{Call};
 
 use ending::Ending;
 use machine::ends;
@@ -153,17 +153,6 @@ impl Client {
         }
     }
 
-    // A call that moves bytes, if it may: `call` makes it of as many as it moves, where it is asked to move k.
-    fn moving<F: FnOnce(u32) -> Call>(self, k: u64, call: F) -> Called
-        requires { F.IsAlwaysCallable call }
-        ensures { (f : ℕ → calls.the_data) → ((n : ℕ) (c : calls.the_data) → F.post call n c → c ≡ f n) → result ≡ moving self f (granted k self) }
-    {
-        match self.granted(k) {
-            Ok(t) => begun(t.device, call(t.n)),
-            Err(why) => refused(self, why),
-        }
-    }
-
     // How many bytes a call may move that is asked to move k.
     fn granted(self, k: u64) -> Result<Transfer, Refusal>
         ensures { result ≡ granted k self }
@@ -171,6 +160,17 @@ impl Client {
         let device = self.call_check()?;
         let n = device.transfer(k).ok_or(Refusal::PastSize)?;
         Ok(Transfer { device, n })
+    }
+
+    // A call that moves bytes, if it may: `call` makes it of as many as it moves, where it is asked to move k.
+    fn moving<F: FnOnce(u32) -> Call>(self, k: u64, call: F) -> Called
+        requires { F.IsAlwaysCallable call }
+        ensures { (f : ℕ → Call) → ((n : ℕ) (c : Call) → F.post call n c → c ≡ f n) → result ≡ moving self f (granted k self) }
+    {
+        match self.granted(k) {
+            Ok(t) => begun(t.device, call(t.n)),
+            Err(why) => refused(self, why),
+        }
     }
 
     // Opens the handshake with a name of n bytes.
