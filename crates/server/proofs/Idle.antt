@@ -15,7 +15,6 @@ use Rattle.server.specs.declared.state.Naming.{Naming}
 use Rattle.server.specs.declared.state.Passing.{Passing}
 use Rattle.server.specs.declared.state.Storing.{Storing}
 use Rattle.server.specs.declared.state.Dropping.{Dropping}
-use Rattle.server.specs.declared.state.Replying.{Replying}
 use Rattle.server.specs.declared.state.Sending.{Sending}
 
 pub shaking_wants : (t m h : List ℕ) (p : hs.Handshake)
@@ -38,13 +37,13 @@ module _ (t m h : List ℕ) (e : Export) where
   serving_wants (tr.Transmission.Header have) a b c = absurd (a have refl)
   serving_wants (tr.Transmission.Storing s) a b c = absurd (b s refl)
   serving_wants (tr.Transmission.Dropping d) a b c = absurd (c d refl)
-  serving_wants (tr.Transmission.Replying r) a b c = refl
+  serving_wants (tr.Transmission.Replying error handle left off len) a b c = refl
   serving_wants (tr.Transmission.Sending s) a b c = refl
 
-  pub serving_owes : (p : tr.Transmission) → ((r : Replying) → p ≡ tr.Transmission.Replying r → ⊥) → ((s : Sending) → p ≡ tr.Transmission.Sending s → ⊥)
+  pub serving_owes : (p : tr.Transmission) → ((error handle left off len : ℕ) → p ≡ tr.Transmission.Replying error handle left off len → ⊥) → ((s : Sending) → p ≡ tr.Transmission.Sending s → ⊥)
       → owes (turn t (on (Serving e (transmission_of h p)) m)) ≡ false
   serving_owes (tr.Transmission.Header have) a b = refl
   serving_owes (tr.Transmission.Storing s) a b = refl
   serving_owes (tr.Transmission.Dropping d) a b = refl
-  serving_owes (tr.Transmission.Replying r) a b = absurd (a r refl)
+  serving_owes (tr.Transmission.Replying error handle left off len) a b = absurd (a error handle left off len refl)
   serving_owes (tr.Transmission.Sending s) a b = absurd (b s refl)

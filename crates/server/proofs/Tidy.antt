@@ -72,7 +72,7 @@ module _ (h : List ℕ) (long : length h ≡ 28) where
   coded_serving e (tr.Transmission.Header have) q = rw (length-take-le have h (omega arith))
   coded_serving e (tr.Transmission.Storing p) q = refl
   coded_serving e (tr.Transmission.Dropping p) q = refl
-  coded_serving e (tr.Transmission.Replying r) q = refl
+  coded_serving e (tr.Transmission.Replying error handle left off len) q = refl
   coded_serving e (tr.Transmission.Sending s) q = refl
 
   pub coded : (p : ph.Phase) → used p ≤ 28 → Digits p → code (view_of h p) ≡ record { phase = p; head = take (used p) h ++ replicate (28 - used p) 0 }
@@ -103,7 +103,7 @@ module _ (h : List ℕ) (long : length h ≡ 28) where
   fits_serving x (tr.Transmission.Header have) e = below have 28 (omega arith) e
   fits_serving x (tr.Transmission.Storing p) e = omega arith
   fits_serving x (tr.Transmission.Dropping p) e = omega arith
-  fits_serving x (tr.Transmission.Replying r) e = omega arith
+  fits_serving x (tr.Transmission.Replying error handle left off len) e = omega arith
   fits_serving x (tr.Transmission.Sending s) e = omega arith
 
   pub used_fits : (p : ph.Phase) → ranged (view_of h p) ≡ true → used p ≤ 28

@@ -30,7 +30,7 @@ abbrev pub transmission_of : List ℕ → tr.Transmission → Transmission
 transmission_of h (tr.Transmission.Header have) = Header (take have h)
 transmission_of h (tr.Transmission.Storing p) = Storing p.handle p.off p.left
 transmission_of h (tr.Transmission.Dropping p) = Dropping p.error p.handle p.left
-transmission_of h (tr.Transmission.Replying r) = Replying r.error r.handle r.left r.off r.len
+transmission_of h (tr.Transmission.Replying error handle left off len) = Replying error handle left off len
 transmission_of h (tr.Transmission.Sending d) = Sending d.off d.left
 
 abbrev pub view_of : List ℕ → ph.Phase → State
@@ -57,7 +57,7 @@ abbrev pub transmission_phase : Transmission → tr.Transmission
 transmission_phase (Header got) = tr.Transmission.Header (length got)
 transmission_phase (Storing handle off left) = tr.Transmission.Storing (record { handle = handle; off = off; left = left })
 transmission_phase (Dropping error handle left) = tr.Transmission.Dropping (record { error = error; handle = handle; left = left })
-transmission_phase (Replying error handle left off len) = tr.Transmission.Replying (record { error = error; handle = handle; left = left; off = off; len = len })
+transmission_phase (Replying error handle left off len) = tr.Transmission.Replying error handle left off len
 transmission_phase (Sending off left) = tr.Transmission.Sending (record { off = off; left = left })
 
 abbrev pub phase_of : State → ph.Phase
@@ -112,7 +112,7 @@ abbrev pub used_serving : tr.Transmission → ℕ
 used_serving (tr.Transmission.Header have) = have
 used_serving (tr.Transmission.Storing p) = 0
 used_serving (tr.Transmission.Dropping p) = 0
-used_serving (tr.Transmission.Replying r) = 0
+used_serving (tr.Transmission.Replying error handle left off len) = 0
 used_serving (tr.Transmission.Sending d) = 0
 
 abbrev pub used : ph.Phase → ℕ

@@ -112,7 +112,13 @@ fn ranged_serving(head: [u8; 28], e: Export, p: Transmission) -> bool
         Transmission::Header { have } => have < 28,
         Transmission::Storing(s) => !request::read_only(e) && part(e, s.off, s.left),
         Transmission::Dropping(d) => d.error == refused(e) && 0 < d.left,
-        Transmission::Replying(r) => (1..=16).contains(&r.left) && behind(e, r.error, r.off, r.len),
+        Transmission::Replying {
+            error,
+            left,
+            off,
+            len,
+            ..
+        } => (1..=16).contains(&left) && behind(e, error, off, len),
         Transmission::Sending(s) => part(e, s.off, s.left),
     }
 }

@@ -94,10 +94,19 @@ pub enum Handshake {
 #[derive(Clone, Copy)]
 pub enum Transmission {
     // so many bytes of a request are in `head`
-    Header { have: usize },
+    Header {
+        have: usize,
+    },
     Storing(Storing),
     Dropping(Dropping),
-    Replying(Replying),
+    // the fields of a `Replying`, here and not as one struct: so a server has 104 bytes and not 112
+    Replying {
+        error: u32,
+        handle: u64,
+        left: usize,
+        off: usize,
+        len: usize,
+    },
     Sending(Sending),
 }
 

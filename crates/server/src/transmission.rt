@@ -51,6 +51,18 @@ impl Replying {
             len: 0,
         }
     }
+
+    fn phase(self) -> Transmission
+        ensures { result ≡ Transmission.Replying self.error self.handle self.left self.off self.len }
+    {
+        Transmission::Replying {
+            error: self.error,
+            handle: self.handle,
+            left: self.left,
+            off: self.off,
+            len: self.len,
+        }
+    }
 }
 
 // A session that serves an export, and what is gathered in `head`.
@@ -89,7 +101,7 @@ impl Service {
                 left: reply.len,
             })
         } else {
-            Phase::Serving(self.export, Transmission::Replying(reply))
+            Phase::Serving(self.export, reply.phase())
         }
     }
 
@@ -217,7 +229,9 @@ impl Service {
 
     fn reply(self, reply: Replying, room: &mut [u8]) -> Gave<Server>
         requires { (0 < reply.left) × (reply.left ≤ 16) }
-        ensures { (t m : List ℕ) → Emitted t (Serving self.export (transmission_of self.head (Transmission.Replying reply))) m room.old result room.new }
+        ensures { (t m : List ℕ)
+            → Emitted t (Serving self.export (transmission_of self.head (Transmission.Replying reply.error reply.handle reply.left reply.off reply.len)))
+            m room.old result room.new }
     {
         let bytes = simple_reply(reply.error, reply.handle);
         let n = parts::give(&bytes, reply.left, room);
@@ -269,7 +283,22 @@ impl Service {
         ensures { (t : List ℕ) → Emitted t (Serving self.export (transmission_of self.head p)) image.now room.old result room.new }
     {
         match p {
-            Transmission::Replying(reply) => self.reply(reply, room),
+            Transmission::Replying {
+                error,
+                handle,
+                left,
+                off,
+                len,
+            } => self.reply(
+                Replying {
+                    error,
+                    handle,
+                    left,
+                    off,
+                    len,
+                },
+                room,
+            ),
             Transmission::Sending(part) => {
                 let a = self.export.start as usize;
                 let b = a + self.export.size as usize;
@@ -284,5 +313,5 @@ impl Service {
 pub fn owes(p: Transmission) -> bool
     ensures { (h : List ℕ) (e : Export) → result ≡ owes_output (Serving e (transmission_of h p)) }
 {
-    matches!(p, Transmission::Replying(_) | Transmission::Sending(_))
+    matches!(p, Transmission::Replying { .. } | Transmission::Sending(_))
 }
