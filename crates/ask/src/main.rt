@@ -22,13 +22,13 @@ const SCRIPT: usize = 65537;
 
 // Does what a line says, and tells how it went.
 fn obey_line(session: &mut Session, k: u64, line: &[u8]) {
-    let at = text::skip(line, 0);
-    if text::is_end(line, at) {
+    let line = text::skip(line);
+    if text::is_end(line) {
         return;
     }
     tell(format_args!("ask: line {k}: "));
-    let mut name = io::buffer();
-    match orders::parse(line, at, &mut name) {
+    let mut buffer = io::buffer();
+    match orders::parse(line, &mut buffer) {
         Some(order) => session.obey(order),
         None => say(
             b"read N FILE, write FILE, seek start|position|end N, flush, trim N or resize N is meant\n",

@@ -1,6 +1,4 @@
 // A line of a script: one call.
-ghost use Rattle.std.specs.Prelude.{◌≤◌, length};
-
 use client::state::SeekFrom;
 use host::text;
 
@@ -14,80 +12,59 @@ pub enum Order<'a> {
     Resize(u64),
 }
 
-fn is_last(line: &[u8], at: usize) -> bool
-    requires { at ≤ length line.now }
-{
-    text::is_end(line, text::skip(line, at))
+fn is_last(line: &[u8]) -> bool {
+    text::is_end(text::skip(line))
 }
 
 // The number with which the line ends.
-fn last_number(line: &[u8], at: usize) -> Option<u64>
-    requires { at ≤ length line.now }
-{
-    let n = text::number_at(line, text::skip(line, at))?;
-    is_last(line, n.next).then_some(n.value)
+fn last_number(line: &[u8]) -> Option<u64> {
+    let (n, rest) = text::number(text::skip(line))?;
+    is_last(rest).then_some(n)
 }
 
 // `-` and a number, or a number, from -2^63 to 2^63 - 1.
-fn last_signed(line: &[u8], at: usize) -> Option<i64>
-    requires { at ≤ length line.now }
-{
-    let at = text::skip(line, at);
-    match line.get(at) {
-        Some(b'-') => 0i64.checked_sub_unsigned(last_number(line, at + 1)?),
-        _ => i64::try_from(last_number(line, at)?).ok(),
+fn last_signed(line: &[u8]) -> Option<i64> {
+    match text::skip(line) {
+        [b'-', rest @ ..] => 0i64.checked_sub_unsigned(last_number(rest)?),
+        line => i64::try_from(last_number(line)?).ok(),
     }
 }
 
 // The file's name with which the line ends, put into the buffer.
-fn last_name<'a>(line: &[u8], at: usize, buffer: &'a mut [u8]) -> Option<&'a [u8]>
-    requires { at ≤ length line.now }
-{
-    let name = text::name_at(line, text::skip(line, at), buffer).ok()?;
-    if is_last(line, name.next) {
-        Some(&buffer[..name.len])
-    } else {
-        None
-    }
+fn last_name<'a>(line: &[u8], buffer: &'a mut [u8]) -> Option<&'a [u8]> {
+    let (name, rest) = text::name(text::skip(line), buffer).ok()?;
+    if is_last(rest) { Some(name) } else { None }
 }
 
 // `read N FILE`
-fn read<'a>(line: &[u8], at: usize, buffer: &'a mut [u8]) -> Option<Order<'a>>
-    requires { at ≤ length line.now }
-{
-    let n = text::number_at(line, text::skip(line, at))?;
-    let file = last_name(line, n.next, buffer)?;
-    Some(Order::Read { n: n.value, file })
+fn read<'a>(line: &[u8], buffer: &'a mut [u8]) -> Option<Order<'a>> {
+    let (n, rest) = text::number(text::skip(line))?;
+    let file = last_name(rest, buffer)?;
+    Some(Order::Read { n, file })
 }
 
 // `seek start N`, `seek position N`, `seek end N`
-fn seek(line: &[u8], at: usize) -> Option<SeekFrom>
-    requires { at ≤ length line.now }
-{
-    let start = text::skip(line, at);
-    let end = text::word_end(line, start);
-    match &line[start..end] {
-        b"start" => last_number(line, end).map(SeekFrom::Start),
-        b"position" => last_signed(line, end).map(SeekFrom::Current),
-        b"end" => last_signed(line, end).map(SeekFrom::End),
+fn seek(line: &[u8]) -> Option<SeekFrom> {
+    match text::word(text::skip(line)) {
+        (b"start", rest) => last_number(rest).map(SeekFrom::Start),
+        (b"position", rest) => last_signed(rest).map(SeekFrom::Current),
+        (b"end", rest) => last_signed(rest).map(SeekFrom::End),
         _ => None,
     }
 }
 
-// The order that the word at `at` begins. A file's name is put into the buffer.
-pub fn parse<'a>(line: &[u8], at: usize, buffer: &'a mut [u8]) -> Option<Order<'a>>
-    requires { at ≤ length line.now }
-{
-    let end = text::word_end(line, at);
-    Some(match &line[at..end] {
-        b"read" => return read(line, end, buffer),
+// The order that the line's first word begins. A file's name is put into the buffer.
+pub fn parse<'a>(line: &[u8], buffer: &'a mut [u8]) -> Option<Order<'a>> {
+    let (word, rest) = text::word(line);
+    Some(match word {
+        b"read" => return read(rest, buffer),
         b"write" => Order::Write {
-            file: last_name(line, end, buffer)?,
+            file: last_name(rest, buffer)?,
         },
-        b"seek" => Order::Seek(seek(line, end)?),
-        b"flush" if is_last(line, end) => Order::Flush,
-        b"trim" => Order::Trim(last_number(line, end)?),
-        b"resize" => Order::Resize(last_number(line, end)?),
+        b"seek" => Order::Seek(seek(rest)?),
+        b"flush" if is_last(rest) => Order::Flush,
+        b"trim" => Order::Trim(last_number(rest)?),
+        b"resize" => Order::Resize(last_number(rest)?),
         _ => return None,
     })
 }

@@ -1,6 +1,6 @@
-// Lines of text for programs: words between blanks, decimal numbers, names that may be quoted; `#` starts a comment. Places are within the line.
-ghost use Rattle.std.specs.Prelude.{◌≤◌, length};
-ghost use Rattle.host.specs.Text.{Behind, NumberIn, NameIn, GlyphIn};
+// Lines of text for programs: words between blanks, decimal numbers, names that may be quoted; `#` starts a comment.
+// Each function takes a line, or what is left of one, and gives what is at its front and what is behind that.
+ghost use Rattle.std.specs.Prelude.{◌≡◌, ◌+◌, ◌≤◌, length, IfOk};
 
 use std::fmt;
 
@@ -27,81 +27,53 @@ impl fmt::Display for Mistake {
     }
 }
 
-// A number of a line, and the place behind it.
-#[derive(Clone, Copy)]
-pub struct Number {
-    pub value: u64,
-    pub next: usize,
-}
-
-// How many bytes a name has, and the place behind it.
-#[derive(Clone, Copy)]
-pub struct Name {
-    pub len: usize,
-    pub next: usize,
-}
-
-// A byte of a quoted name, or none for its last quote, and the place behind it.
-#[derive(Clone, Copy)]
-pub struct Glyph {
-    pub byte: Option<u8>,
-    pub next: usize,
-}
-
 fn is_blank(b: u8) -> bool {
     matches!(b, b' ' | b'\t' | b'\r')
 }
 
-// The first place from `at` on whose byte is such a one, or else the line's end.
-fn find<F: Fn(u8) -> bool>(line: &[u8], at: usize, is_such: F) -> usize
-    requires place { at ≤ length line.now }
-    requires callable { F.IsAlwaysCallable is_such }
-    ensures { Behind at (length line.now) result }
+// The bytes in front of the first that is such a one, and the rest.
+fn cut<F: Fn(u8) -> bool>(line: &[u8], is_such: F) -> (&[u8], &[u8])
+    requires { F.IsAlwaysCallable is_such }
+    ensures { length result.0.now + length result.1.now ≡ length line.now }
 {
-    match line[at..].iter().position(|b| is_such(*b)) {
-        Some(n) => at + n,
-        None => line.len(),
-    }
+    let n = line.iter().position(|b| is_such(*b)).unwrap_or(line.len());
+    line.split_at(n)
 }
 
-// The first place from `at` on that is no blank.
-pub fn skip(line: &[u8], at: usize) -> usize
-    requires { at ≤ length line.now }
-    ensures { Behind at (length line.now) result }
+// The line from the first byte on that is no blank.
+pub fn skip(line: &[u8]) -> &[u8]
+    ensures { length result.now ≤ length line.now }
 {
-    find(line, at, |b| !is_blank(b))
+    let (_, rest) = cut(line, |b| !is_blank(b));
+    rest
 }
 
-// The end of the word that stands there.
-pub fn word_end(line: &[u8], at: usize) -> usize
-    requires { at ≤ length line.now }
-    ensures { Behind at (length line.now) result }
+// The word at the front.
+pub fn word(line: &[u8]) -> (&[u8], &[u8])
+    ensures { length result.0.now + length result.1.now ≡ length line.now }
 {
-    find(line, at, |b| is_blank(b) || b == b'#')
+    cut(line, |b| is_blank(b) || b == b'#')
 }
 
-// Whether nothing but a comment stands there.
-pub fn is_end(line: &[u8], at: usize) -> bool {
-    line.get(at).is_none_or(|b| *b == b'#')
+// Whether nothing but a comment is left.
+pub fn is_end(line: &[u8]) -> bool {
+    matches!(line, [] | [b'#', ..])
 }
 
 // ---- numbers
 
 // A whole word of decimal digits, below 2^64.
-pub fn number_at(line: &[u8], at: usize) -> Option<Number>
-    requires { at ≤ length line.now }
-    ensures { NumberIn (length line.now) result }
-{
-    let next = word_end(line, at);
-    if next == at {
+pub fn number(line: &[u8]) -> Option<(u64, &[u8])> {
+    let (word, rest) = word(line);
+    if word.is_empty() {
         return None;
     }
     let mut value: u64 = 0;
-    for b in &line[at..next] {
+    for b in word {
         let digit = char::from(*b).to_digit(10)?;
         value = value.checked_mul(10)?.checked_add(u64::from(digit))?;
     }
-    Some(Number { value, next })
+    Some((value, rest))
 }
 
 // ---- names
@@ -114,89 +86,69 @@ fn hex_byte(high: u8, low: u8) -> Option<u8> {
 }
 
 // Behind a backslash: itself, a quote, or `x` and two hexadecimal digits.
-fn escaped(line: &[u8], at: usize) -> Result<Glyph, Mistake>
-    requires { at ≤ length line.now }
-    ensures { GlyphIn (length line.now) result }
-{
-    match &line[at..] {
-        [b @ (b'"' | b'\\'), ..] => Ok(Glyph {
-            byte: Some(*b),
-            next: at + 1,
-        }),
-        [b'x', high, low, ..] => match hex_byte(*high, *low) {
-            Some(byte) => Ok(Glyph {
-                byte: Some(byte),
-                next: at + 3,
-            }),
+fn escaped(line: &[u8]) -> Result<(Option<u8>, &[u8]), Mistake> {
+    match line {
+        [b @ (b'"' | b'\\'), rest @ ..] => Ok((Some(*b), rest)),
+        [b'x', high, low, rest @ ..] => match hex_byte(*high, *low) {
             None => Err(Mistake::Escape),
+            byte => Ok((byte, rest)),
         },
         _ => Err(Mistake::Escape),
     }
 }
 
-// What stands at a place of a quoted name, behind its first quote.
-fn glyph_at(line: &[u8], at: usize) -> Result<Glyph, Mistake>
-    requires { at ≤ length line.now }
-    ensures { GlyphIn (length line.now) result }
-{
-    match line.get(at) {
-        None => Err(Mistake::NoQuote),
-        Some(b'\\') => escaped(line, at + 1),
-        Some(b) => Ok(Glyph {
-            byte: if *b == b'"' { None } else { Some(*b) },
-            next: at + 1,
-        }),
+// A byte of a quoted name, or none for the quote at its end.
+fn glyph(line: &[u8]) -> Result<(Option<u8>, &[u8]), Mistake> {
+    match line {
+        [] => Err(Mistake::NoQuote),
+        [b'"', rest @ ..] => Ok((None, rest)),
+        [b'\\', rest @ ..] => escaped(rest),
+        [b, rest @ ..] => Ok((Some(*b), rest)),
     }
 }
 
-// A quoted name, from behind its first quote.
-fn quoted(line: &[u8], at: usize, name: &mut [u8]) -> Result<Name, Mistake>
-    requires { at ≤ length line.now }
-    ensures { NameIn (length name.old) (length line.now) result }
+// A quoted name, behind its first quote: how many bytes it has.
+fn quoted<'a>(line: &'a [u8], buffer: &mut [u8]) -> Result<(usize, &'a [u8]), Mistake>
+    ensures { IfOk result (λ found. found.0 ≤ length buffer.old) }
 {
-    let mut next = at;
-    for (len, place) in name.iter_mut().enumerate() {
-        let glyph = glyph_at(line, next)?;
-        next = glyph.next;
-        match glyph.byte {
-            Some(byte) => *place = byte,
-            None => return Ok(Name { len, next }),
+    let mut left = line;
+    for (len, place) in buffer.iter_mut().enumerate() {
+        let (byte, rest) = glyph(left)?;
+        match byte {
+            Some(b) => *place = b,
+            None => return Ok((len, rest)),
         }
+        left = rest;
     }
-    let glyph = glyph_at(line, next)?;
-    match glyph.byte {
-        Some(_) => Err(Mistake::LongName),
-        None => Ok(Name {
-            len: name.len(),
-            next: glyph.next,
-        }),
+    match glyph(left)? {
+        (Some(_), _) => Err(Mistake::LongName),
+        (None, rest) => Ok((buffer.len(), rest)),
     }
 }
 
-// A name that is one word without quotes.
-fn plain(line: &[u8], at: usize, name: &mut [u8]) -> Result<Name, Mistake>
-    requires { at ≤ length line.now }
-    ensures { NameIn (length name.old) (length line.now) result }
+// A name that is one word without quotes: how many bytes it has.
+fn plain<'a>(line: &'a [u8], buffer: &mut [u8]) -> Result<(usize, &'a [u8]), Mistake>
+    ensures { IfOk result (λ found. found.0 ≤ length buffer.old) }
 {
-    let next = word_end(line, at);
-    let word = &line[at..next];
+    let (word, rest) = word(line);
     let len = word.len();
-    if name.len() < len {
+    if buffer.len() < len {
         return Err(Mistake::LongName);
     }
     if word.contains(&b'"') {
         return Err(Mistake::NoQuote);
     }
-    name[..len].copy_from_slice(word);
-    Ok(Name { len, next })
+    buffer[..len].copy_from_slice(word);
+    Ok((len, rest))
 }
 
-pub fn name_at(line: &[u8], at: usize, name: &mut [u8]) -> Result<Name, Mistake>
-    requires { at ≤ length line.now }
-    ensures { NameIn (length name.old) (length line.now) result }
+// A name, put at the front of the buffer.
+pub fn name<'a, 'b>(line: &'a [u8], buffer: &'b mut [u8]) -> Result<(&'b [u8], &'a [u8]), Mistake>
+    ensures { IfOk result (λ found. length found.0.now ≤ length buffer.old) }
 {
-    match line.get(at) {
-        Some(b'"') => quoted(line, at + 1, name),
-        _ => plain(line, at, name),
-    }
+    let (len, rest) = match line {
+        [b'"', behind @ ..] => quoted(behind, buffer)?,
+        _ => plain(line, buffer)?,
+    };
+    Ok((&buffer[..len], rest))
 }

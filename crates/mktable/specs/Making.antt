@@ -1,8 +1,8 @@
 -- What a line says.
 --   ParsedIn k   the record that it asks for, if any, has a name of at most k bytes
-use Rattle.std.specs.Prelude.{ℕ, ◌≤◌, Option, Result, IfSome, IfOk}
+use Rattle.std.specs.Prelude.{ℕ, ◌≤◌, length, Option, Result, IfSome, IfOk}
 use Rattle.host.specs.declared.text.Mistake.{Mistake}
 use Rattle.mktable.specs.declared.making.Record.{Record}
 
 abbrev pub ParsedIn : ℕ → Result (Option Record) Mistake → Type 0
-ParsedIn k r = IfOk r (λ (o : Option Record). IfSome o (λ (x : Record). x.len ≤ k))
+ParsedIn k r = IfOk r (λ (o : Option Record). IfSome o (λ (x : Record). length x.name.now ≤ k))

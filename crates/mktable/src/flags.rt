@@ -1,5 +1,5 @@
 // The words behind an export's window.
-ghost use Rattle.std.specs.Prelude.{◌<◌, ◌≤◌, length, OnSome};
+ghost use Rattle.std.specs.Prelude.{◌<◌, length, OnSome};
 
 use host::text;
 use host::text::Mistake;
@@ -17,16 +17,14 @@ fn flag(word: &[u8]) -> Option<u8>
     }
 }
 
-// The flags that the words behind `at` name. A word may stand twice.
-pub fn words_at(line: &[u8], at: usize) -> Result<u8, Mistake>
-    requires { at ≤ length line.now }
-{
+// The flags that the words name. A word may stand twice.
+pub fn in_words(line: &[u8]) -> Result<u8, Mistake> {
     let mut flags = 0;
-    let mut i = text::skip(line, at);
-    while !text::is_end(line, i) {
-        let end = text::word_end(line, i);
-        flags |= flag(&line[i..end]).ok_or(Mistake::Word)?;
-        i = text::skip(line, end);
+    let mut rest = text::skip(line);
+    while !text::is_end(rest) {
+        let (word, behind) = text::word(rest);
+        flags |= flag(word).ok_or(Mistake::Word)?;
+        rest = text::skip(behind);
     }
     Ok(flags)
 }

@@ -20,8 +20,8 @@ const TABLE: usize = 135796;
 fn size(rt: &HostRuntime) -> Option<usize> {
     let mut word = io::buffer();
     let n = args::get(rt, 1, &mut word).ok()?;
-    let size = text::number_at(&word[..n], 0)?;
-    Some(size.value as usize)
+    let (size, _) = text::number(&word[..n])?;
+    Some(size as usize)
 }
 
 fn is_list(rt: &HostRuntime) -> bool {

@@ -1,22 +1,22 @@
 // From lines of text to a table.
-ghost use Rattle.std.specs.Prelude.{◌≡◌, ◌+◌, ◌≤◌, length, IfOk};
+ghost use Rattle.std.specs.Prelude.{◌≡◌, ◌≤◌, length};
 ghost use Rattle.wire.specs.Table.{fault};
 ghost use Rattle.mktable.specs.Making.{ParsedIn};
 
 use crate::{STDOUT, flags};
 use host::faults::BadTable;
-use host::text::{Mistake, Number};
+use host::text::Mistake;
 use host::words::{say, tell};
 use host::{faults, text};
 use std::fmt;
 use wire::table::{Export, Fault};
 use wire::{fields, table};
 
-// What a line asks for: so many bytes of the name buffer are the record's name.
+// What a line asks for.
 #[derive(Clone, Copy)]
-pub struct Record {
+pub struct Record<'a> {
     pub export: Export,
-    pub len: usize,
+    pub name: &'a [u8],
 }
 
 // Why a line adds no record.
@@ -51,32 +51,24 @@ impl From<Fault> for Wrong {
 // ---- a line
 
 // The next word, which is a number.
-fn number(line: &[u8], at: usize) -> Result<Number, Mistake>
-    requires { at ≤ length line.now }
-    ensures { IfOk result (λ n. n.next ≤ length line.now) }
-{
-    text::number_at(line, text::skip(line, at)).ok_or(Mistake::NoNumber)
+fn number(line: &[u8]) -> Result<(u64, &[u8]), Mistake> {
+    text::number(text::skip(line)).ok_or(Mistake::NoNumber)
 }
 
-fn parse(line: &[u8], name: &mut [u8]) -> Result<Option<Record>, Mistake>
-    ensures { ParsedIn (length name.old) result }
+// The name is put into the buffer.
+fn parse<'a>(line: &[u8], buffer: &'a mut [u8]) -> Result<Option<Record<'a>>, Mistake>
+    ensures { ParsedIn (length buffer.old) result }
 {
-    let at = text::skip(line, 0);
-    if text::is_end(line, at) {
+    let line = text::skip(line);
+    if text::is_end(line) {
         return Ok(None);
     }
-    let name = text::name_at(line, at, name)?;
-    let start = number(line, name.next)?;
-    let size = number(line, start.next)?;
-    let export = Export {
-        start: start.value,
-        size: size.value,
-        flags: flags::words_at(line, size.next)?,
-    };
-    Ok(Some(Record {
-        export,
-        len: name.len,
-    }))
+    let (name, rest) = text::name(line, buffer)?;
+    let (start, rest) = number(rest)?;
+    let (size, rest) = number(rest)?;
+    let flags = flags::in_words(rest)?;
+    let export = Export { start, size, flags };
+    Ok(Some(Record { export, name }))
 }
 
 // ---- the table
@@ -127,15 +119,16 @@ impl<'a> Draft<'a> {
     }
 
     // Adds a record if the table stays sound.
-    fn add(&mut self, x: Export, name: &[u8]) -> Result<(), Fault>
-        requires { length name.now ≤ 4096 }
+    fn add(&mut self, r: Record<'_>) -> Result<(), Fault>
+        requires { length r.name.now ≤ 4096 }
     {
+        let name = r.name;
         if self.buffer.len() - self.len < 19 + name.len() {
             return Err(Fault::Count);
         }
         let start = self.len + 19;
         let end = start + name.len();
-        self.buffer[self.len..start].copy_from_slice(&head(x, name.len()));
+        self.buffer[self.len..start].copy_from_slice(&head(r.export, name.len()));
         self.buffer[start..end].copy_from_slice(name);
         table::check(&self.buffer[..end], self.image)?;
         self.len = end;
@@ -144,9 +137,9 @@ impl<'a> Draft<'a> {
 
     // Adds what a line says.
     fn add_line(&mut self, line: &[u8]) -> Result<(), Wrong> {
-        let mut name = io::buffer();
-        if let Some(Record { export, len }) = parse(line, &mut name)? {
-            self.add(export, &name[..len])?;
+        let mut buffer = io::buffer();
+        if let Some(record) = parse(line, &mut buffer)? {
+            self.add(record)?;
         }
         Ok(())
     }
