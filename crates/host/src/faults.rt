@@ -1,5 +1,4 @@
 // A table that is refused: why, and which record it is.
-use crate::words;
 use std::fmt;
 use wire::records::Records;
 use wire::table;
@@ -42,13 +41,4 @@ impl fmt::Display for BadTable<'_> {
         }
         f.write_str(text(self.fault))
     }
-}
-
-pub fn say_bad_table(fault: Fault, table: &[u8], image: usize) {
-    let bad = BadTable {
-        fault,
-        table,
-        image,
-    };
-    words::tell(format_args!("{bad}\n"));
 }

@@ -1,7 +1,6 @@
 // Whole files, and parts of them.
 ghost use Rattle.std.specs.Prelude.{◌+◌, ◌≤◌, length};
 ghost use Rattle.std.specs.Io.{ReadsAtMost};
-ghost use Rattle.host.specs.Files.{GotIn};
 
 use std::fs::{File, OpenOptions};
 use std::io::{Error, ErrorKind, Read, Result};
@@ -79,29 +78,4 @@ pub fn write(file: &File, bytes: &[u8], place: usize) -> Result<()>
         done += n;
     }
     Ok(())
-}
-
-// ---- what serve still calls
-
-// What a file held.
-#[derive(Clone, Copy)]
-pub enum Got {
-    Bytes(usize),
-    // and why
-    Unreadable(Error),
-}
-
-pub fn read_file(file: &mut impl Read, buf: &mut [u8]) -> Got
-    ensures { GotIn (length buf.old) result }
-{
-    match fill(file, buf) {
-        Ok(n) => Got::Bytes(n),
-        Err(e) => Got::Unreadable(e),
-    }
-}
-
-pub fn put(file: &File, bytes: &[u8], place: usize) -> bool
-    requires { place + length bytes.now ≤ 9223372036854775807 }
-{
-    write(file, bytes, place).is_ok()
 }

@@ -7,8 +7,8 @@ use std::io::Error;
 
 const STDERR: i32 = 2;
 
-pub fn say(text: &[u8]) {
-    io::write_all(STDERR, text);
+pub fn say_bytes(bytes: &[u8]) {
+    io::write_all(STDERR, bytes);
 }
 
 // Standard error, as `write!` takes it.
@@ -17,23 +17,13 @@ struct Stderr;
 
 impl fmt::Write for Stderr {
     fn write_str(&mut self, s: &str) -> fmt::Result {
-        say(s.as_bytes());
+        say_bytes(s.as_bytes());
         Ok(())
     }
 }
 
-pub fn tell(message: impl Display + Drop) {
+pub fn say(message: impl Display + Drop) {
     let _ = write!(Stderr, "{message}");
-}
-
-pub fn say_number(n: u64) {
-    io::print_decimal(STDERR, n);
-}
-
-// A number of document 01, and a colon: its meaning follows.
-pub fn say_code(n: u8) {
-    say_number(n as u64);
-    say(b": ");
 }
 
 // What an error shows itself as; what does not fit is left out. A `String` in place of the array could fail for want of memory.
@@ -62,14 +52,14 @@ fn without_number(text: &[u8]) -> &[u8] {
 }
 
 // A line: what failed, as the caller names it, a colon and why, which is an error of the system's.
-pub fn fail(what: &[u8], error: Error) {
+pub fn fail(what: &str, error: Error) {
     let mut shown = Shown {
         text: [0u8; 256],
         len: 0,
     };
     let _ = write!(shown, "{error}");
     say(what);
-    say(b": ");
-    say(without_number(&shown.text[..shown.len]));
-    say(b"\n");
+    say(": ");
+    say_bytes(without_number(&shown.text[..shown.len]));
+    say("\n");
 }

@@ -1,7 +1,7 @@
 // From a table to lines of text that make it again.
 use crate::STDOUT;
 use host::faults::BadTable;
-use host::words::tell;
+use host::words::say;
 use wire::records::{Entry, Records};
 use wire::table;
 use wire::table::Export;
@@ -71,7 +71,7 @@ pub fn list(table: &[u8], image: usize) {
                 table,
                 image,
             };
-            tell(format_args!("mktable: {bad}\n"));
+            say(format_args!("mktable: {bad}\n"));
         }
     }
 }

@@ -33,9 +33,9 @@ fn is_list(rt: &HostRuntime) -> bool {
 }
 
 fn usage() {
-    say(b"usage: mktable SIZE < LINES > TABLE\n       mktable SIZE list < TABLE > LINES\n");
-    say(b"SIZE is the image's size in bytes. A line has a name, a start and a size, and any of\n");
-    say(b"the words readonly, resizeable, rotational and trim; # starts a comment.\n");
+    say("usage: mktable SIZE < LINES > TABLE\n       mktable SIZE list < TABLE > LINES\n");
+    say("SIZE is the image's size in bytes. A line has a name, a start and a size, and any of\n");
+    say("the words readonly, resizeable, rotational and trim; # starts a comment.\n");
 }
 
 fn obey(rt: &HostRuntime, image: usize, text: &[u8]) {
@@ -58,9 +58,9 @@ fn run(rt: &HostRuntime, text: &mut [u8; TEXT]) {
 
 fn read_and_obey(rt: &HostRuntime, image: usize, text: &mut [u8]) {
     match files::fill(&mut rt.stdin(), text) {
-        Ok(n) if n == text.len() => say(b"mktable: standard input is too long\n"),
+        Ok(n) if n == text.len() => say("mktable: standard input is too long\n"),
         Ok(n) => obey(rt, image, &text[..n]),
-        Err(e) => words::fail(b"mktable: standard input", e),
+        Err(e) => words::fail("mktable: standard input", e),
     }
 }
 

@@ -6,7 +6,7 @@ ghost use Rattle.mktable.specs.Making.{ParsedIn};
 use crate::{STDOUT, flags};
 use host::faults::BadTable;
 use host::text::Mistake;
-use host::words::{say, tell};
+use host::words::say;
 use host::{faults, text};
 use std::fmt;
 use wire::table::{Export, Fault};
@@ -92,7 +92,7 @@ fn write_table(table: &[u8], image: usize)
 {
     let written = io::write_all(STDOUT, table);
     if !written {
-        say(b"mktable: the table cannot be written\n");
+        say("mktable: the table cannot be written\n");
     }
 }
 
@@ -155,7 +155,7 @@ impl<'a> Draft<'a> {
                     table,
                     image,
                 };
-                tell(format_args!("mktable: {bad}\n"));
+                say(format_args!("mktable: {bad}\n"));
             }
         }
     }
@@ -169,7 +169,7 @@ pub fn make(text: &[u8], image: usize, buffer: &mut [u8])
     let mut good = true;
     for (k, line) in (1u64..).zip(text.split(|b| *b == b'\n')) {
         if let Err(wrong) = draft.add_line(line) {
-            tell(format_args!("mktable: line {k}: {wrong}\n"));
+            say(format_args!("mktable: line {k}: {wrong}\n"));
             good = false;
         }
     }
