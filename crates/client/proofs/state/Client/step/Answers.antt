@@ -3,14 +3,12 @@ use mathlib.Core.Path.{sym}
 use borrow.Author.Rules.{rules}
 use lib.ListN.{length}
 use Rattle.client.proofs.Refusals.{accepted}
-use Rattle.client.proofs.Kept.{sound, same_lent}
+use Rattle.client.proofs.Kept.{sound, lasts}
 use Rattle.client.proofs.Tidy.{used_fits}
 use Rattle.client.proofs.state.Client.step.Goals as goal
 
 pub advance-r-requires : goal.advance-r-requires
-advance-r-requires c =
-    let fine = accepted (length c.args.lent.now) c.args.self (sym c.in_default.ensures) in
-    λ y m' is os p. (sound p fine, same_lent p)
+advance-r-requires c = lasts (accepted (length c.args.lent.now) c.args.self (sym c.in_default.ensures))
 
 pub canonical-requires : goal.canonical-requires
 canonical-requires c =
