@@ -13,7 +13,9 @@
 --   field_lt       a field of n bytes is below 256 ^ n
 --   field_fits     and one of at most 8 bytes fits 64 bits
 --   field_more     a field that is one byte longer
---   same_bytes_refl, same_bytes_eq, same_bytes_ne    the test `same_bytes` says whether the lists are equal
+--   number_take    one byte more of a list
+--   same_bytes_refl, same_bytes_eq   the test `same_bytes` says whether the lists are equal
+--   same_pointwise   the library's test answers the same
 use Prim.Native.Nat.{ℕ, zero, suc, ◌+◌, ◌*◌, ◌/◌, ◌%◌, ◌^◌, ◌≤◌, ◌<◌}
 use mathlib.Core.Path.{◌≡◌, refl, sym, ap, ◌∙◌}
 use mathlib.Core.Bool.{Bool, true, false}
@@ -26,9 +28,11 @@ use lib.Pow.{pow-add}
 use lib.ListN.{length, take, drop, get_or, length-append, length-take, length-drop}
 use lib.Seq.{take-suc, get_or-drop}
 use lib.Dec.{eqb}
+use lib.Pointwise.{pointwise}
+use mathlib.Core.Bool.{◌&&◌}
 use mir.Syntax.{w8}
 use mir.Val.{Fits}
-use borrow.Author.Tests.{eqb-true, eq-eqb, ne_eqb}
+use borrow.Author.Tests.{eqb-true, eq-eqb}
 use Rattle.machine.specs.Choice.{both}
 use Rattle.wire.specs.Fields.{be, number, field, Bytes, same_bytes}
 
@@ -131,6 +135,12 @@ field_more l at i h =
     let k : i < length (drop at l) = rw length-drop (omega arith) in
     rw (add-one, take-suc (drop at l) i 0 k, number_snoc, get_or-drop)
 
+pub number_take : (l : List ℕ) (i : ℕ) → i < length l → number (take (i + 1) l) ≡ number (take i l) * 256 + get_or l i 0
+number_take l i h = rw (add-one, take-suc l i 0 h, number_snoc)
+
+pub number_fits : (l : List ℕ) (i : ℕ) → Bytes l → i ≤ 8 → number (take i l) < 2 ^ 64
+number_fits l i t h = field_fits l 0 i t h
+
 -- ---- the test of equality
 pub same_bytes_refl : (l : List ℕ) → same_bytes l l ≡ true
 unfolding same_bytes
@@ -148,14 +158,14 @@ same_bytes_eq (b ∷ l) (c ∷ m) e = heads (eqb b c) refl e (same_bytes_eq l m)
     heads true h e rest = cc (eqb-true b c h, rest e)
     heads false h e rest = cc
 
-pub same_bytes_ne : (l m : List ℕ) (i : ℕ) → (get_or l i 0 ≡ get_or m i 0 → ⊥) → same_bytes l m ≡ false
+-- the library's test answers the same
+pub same_pointwise : (l m : List ℕ) → pointwise eqb l m ≡ same_bytes l m
 unfolding same_bytes
-same_bytes_ne [] [] i h = absurd (h refl)
-same_bytes_ne [] (c ∷ m) i h = refl
-same_bytes_ne (b ∷ l) [] i h = refl
-same_bytes_ne (b ∷ l) (c ∷ m) zero h = rw (ne_eqb b c h)
-same_bytes_ne (b ∷ l) (c ∷ m) (suc i) h = rw (same_bytes_ne l m i h) (both_false (eqb b c))
+same_pointwise [] [] = refl
+same_pointwise [] (c ∷ m) = refl
+same_pointwise (b ∷ l) [] = refl
+same_pointwise (b ∷ l) (c ∷ m) = rw (same_pointwise l m) (go (eqb b c))
   where
-    both_false : (t : Bool) → both t false ≡ false
-    both_false true = refl
-    both_false false = refl
+    go : (t : Bool) → (t && same_bytes l m) ≡ both t (same_bytes l m)
+    go true = refl
+    go false = refl

@@ -1,43 +1,100 @@
-// Big-endian numbers in slices, at any width up to 8 bytes, and the test for a fixed string.
-ghost use Rattle.std.specs.Prelude.{◌≡◌, ◌+◌, ◌≤◌, length, take, drop};
+// Big-endian numbers in slices, and the test for a fixed string.
+ghost use Rattle.std.specs.Prelude.{◌≡◌, ℕ, ◌+◌, ◌^◌, ◌<◌, ◌≤◌, length, take, drop};
 ghost use Rattle.std.proofs.Math.Seq.{paste};
-ghost use Rattle.wire.specs.Fields.{be, field, same_bytes};
+ghost use Rattle.std.proofs.Common.{rules};
+ghost use Rattle.wire.specs.Fields.{be, number, field, same_bytes};
 
-// The number in the n bytes from `at` on.
-fn number_at(s: &[u8], at: usize, n: usize) -> u64
-    requires { (n ≤ 8) × (at + n ≤ length s.now) }
-    ensures { result ≡ field s.now at n }
+// A type of numbers that stand on the wire in so many bytes.
+pub trait Field: Copy {
+    ghost BYTES: { ℕ };
+
+    ghost value: { Self → ℕ };
+
+    const BYTES: usize;
+
+    fn from_wide(x: u64) -> Self
+        requires { x < 256 ^ BYTES }
+        ensures { value result ≡ x };
+
+    fn wide(self) -> u64
+        ensures { result ≡ value self };
+
+    // No number is wider than 64 bits.
+    ghost narrow: { BYTES ≤ 8 };
+}
+
+impl Field for u16 {
+    ghost BYTES = { 2 };
+
+    ghost value = { λ x. x };
+
+    ghost narrow = { Prim.search rules };
+
+    const BYTES: usize = 2;
+
+    fn from_wide(x: u64) -> u16 {
+        x as u16
+    }
+
+    fn wide(self) -> u64 {
+        self as u64
+    }
+}
+
+impl Field for u32 {
+    ghost BYTES = { 4 };
+
+    ghost value = { λ x. x };
+
+    ghost narrow = { Prim.search rules };
+
+    const BYTES: usize = 4;
+
+    fn from_wide(x: u64) -> u32 {
+        x as u32
+    }
+
+    fn wide(self) -> u64 {
+        self as u64
+    }
+}
+
+impl Field for u64 {
+    ghost BYTES = { 8 };
+
+    ghost value = { λ x. x };
+
+    ghost narrow = { Prim.search rules };
+
+    const BYTES: usize = 8;
+
+    fn from_wide(x: u64) -> u64 {
+        x
+    }
+
+    fn wide(self) -> u64 {
+        self
+    }
+}
+
+// The number that the bytes stand for.
+fn number(bytes: &[u8]) -> u64
+    requires { length bytes.now ≤ 8 }
+    ensures { result ≡ number bytes.now }
 {
-    let mut x: u64 = 0;
-    let mut i = 0;
-    while i < n {
-        let b = s[at + i] as u64;
-        x = x * 256 + b;
-        i += 1;
+    let mut x = 0;
+    for b in bytes {
+        x = x * 256 + *b as u64;
     }
     x
 }
 
-// The field of 2, 4 or 8 bytes from `at` on.
-pub fn read_u16(s: &[u8], at: usize) -> u16
-    requires { at + 2 ≤ length s.now }
-    ensures { result ≡ field s.now at 2 }
+// The number in the field from `at` on.
+pub fn read<T: Field>(s: &[u8], at: usize) -> T
+    requires { at + T.BYTES ≤ length s.now }
+    ensures { T.value result ≡ field s.now at T.BYTES }
 {
-    number_at(s, at, 2) as u16
-}
-
-pub fn read_u32(s: &[u8], at: usize) -> u32
-    requires { at + 4 ≤ length s.now }
-    ensures { result ≡ field s.now at 4 }
-{
-    number_at(s, at, 4) as u32
-}
-
-pub fn read_u64(s: &[u8], at: usize) -> u64
-    requires { at + 8 ≤ length s.now }
-    ensures { result ≡ field s.now at 8 }
-{
-    number_at(s, at, 8)
+    T::from_wide(number(&s[at..at + T::BYTES]))
 }
 
 // Writes the n low bytes of x from `at` on.
@@ -45,35 +102,17 @@ fn put_number(dst: &mut [u8], at: usize, n: usize, x: u64)
     requires { (n ≤ 8) × (at + n ≤ length dst.old) }
     ensures { dst.new ≡ paste dst.old at (be n x) n }
 {
-    let mut i = 0;
-    let mut left = n;
-    while 0 < left {
-        left -= 1;
-        dst[at + i] = ((x >> (8 * left)) % 256) as u8;
-        i += 1;
+    for i in 0..n {
+        dst[at + i] = ((x >> (8 * (n - 1 - i))) % 256) as u8;
     }
 }
 
-// Writes x as a field of 2, 4 or 8 bytes from `at` on.
-pub fn write_u16(dst: &mut [u8], at: usize, x: u16)
-    requires { at + 2 ≤ length dst.old }
-    ensures { dst.new ≡ paste dst.old at (be 2 x) 2 }
+// Writes x as a field from `at` on.
+pub fn write<T: Field>(dst: &mut [u8], at: usize, x: T)
+    requires { at + T.BYTES ≤ length dst.old }
+    ensures { dst.new ≡ paste dst.old at (be T.BYTES (T.value x)) T.BYTES }
 {
-    put_number(dst, at, 2, x as u64);
-}
-
-pub fn write_u32(dst: &mut [u8], at: usize, x: u32)
-    requires { at + 4 ≤ length dst.old }
-    ensures { dst.new ≡ paste dst.old at (be 4 x) 4 }
-{
-    put_number(dst, at, 4, x as u64);
-}
-
-pub fn write_u64(dst: &mut [u8], at: usize, x: u64)
-    requires { at + 8 ≤ length dst.old }
-    ensures { dst.new ≡ paste dst.old at (be 8 x) 8 }
-{
-    put_number(dst, at, 8, x);
+    put_number(dst, at, T::BYTES, x.wide());
 }
 
 // Whether two slices of one length hold the same bytes.
@@ -81,14 +120,7 @@ pub fn same(a: &[u8], b: &[u8]) -> bool
     requires { length a.now ≡ length b.now }
     ensures { result ≡ same_bytes a.now b.now }
 {
-    let mut i = 0;
-    while i < a.len() {
-        if a[i] != b[i] {
-            return false;
-        }
-        i += 1;
-    }
-    true
+    a == b
 }
 
 // Whether the 8 bytes from `at` on are the fixed string.
@@ -96,6 +128,5 @@ pub fn same_bytes(s: &[u8], at: usize, magic: &[u8; 8]) -> bool
     requires { at + 8 ≤ length s.now }
     ensures { result ≡ same_bytes (take 8 (drop at s.now)) magic.now }
 {
-    let end = at + 8;
-    same(&s[at..end], magic)
+    same(&s[at..at + 8], magic)
 }

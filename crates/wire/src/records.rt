@@ -25,8 +25,8 @@ fn entry_of(body: &[u8]) -> Entry<'_>
 {
     Entry {
         export: Export {
-            start: fields::read_u64(body, 0),
-            size: fields::read_u64(body, 8),
+            start: fields::read(body, 0),
+            size: fields::read(body, 8),
             flags: body[16],
         },
         name: &body[17..],
@@ -43,7 +43,7 @@ pub fn front(bytes: &[u8]) -> Result<Option<(Entry<'_>, &[u8])>, Broken>
     if bytes.len() < 2 {
         return Err(Broken);
     }
-    let n = fields::read_u16(bytes, 0) as usize;
+    let n = fields::read::<u16>(bytes, 0) as usize;
     let (_, behind) = bytes.split_at(2);
     if n < 17 || 4113 < n || behind.len() < n {
         return Err(Broken);

@@ -4,7 +4,7 @@ ghost use Rattle.machine.specs.Choice.{pick, between};
 ghost use Rattle.wire.specs.Utf8.{lead, next, run, whole};
 
 // Where a text stands after the bytes so far.
-#[derive(Clone, Copy)]
+#[derive(Clone, Copy, Debug, PartialEq, Eq)]
 pub enum Utf8 {
     // between two characters
     Start,
@@ -42,8 +42,8 @@ fn lead(b: u8) -> Utf8
 fn tail(b: u8, lo: u8, hi: u8, then: Utf8) -> Utf8
     ensures { result ≡ pick (between lo hi b) then Utf8.Bad }
 {
-    if lo <= b {
-        if b <= hi { then } else { Utf8::Bad }
+    if (lo..=hi).contains(&b) {
+        then
     } else {
         Utf8::Bad
     }
@@ -78,29 +78,13 @@ impl Utf8 {
     pub fn run(self, part: &[u8]) -> Utf8
         ensures { result ≡ run self part.now }
     {
-        let mut s = self;
-        let mut i = 0;
-        while i < part.len() {
-            s = s.next(part[i]);
-            i += 1;
-        }
-        s
+        part.iter().fold(self, |s, b| s.next(*b))
     }
 
     // Whether a text may end here.
     pub fn whole(self) -> bool
         ensures { result ≡ whole self }
     {
-        match self {
-            Utf8::Start => true,
-            Utf8::Tail1 => false,
-            Utf8::Tail2 => false,
-            Utf8::Tail3 => false,
-            Utf8::AfterE0 => false,
-            Utf8::AfterED => false,
-            Utf8::AfterF0 => false,
-            Utf8::AfterF4 => false,
-            Utf8::Bad => false,
-        }
+        matches!(self, Utf8::Start)
     }
 }

@@ -16,7 +16,7 @@ returns-then-bytes-lt2 c =
 
 pub returns-then-n-lt17 : goal.returns-then-n-lt17
 returns-then-n-lt17 c =
-    let n = c.read_u16-n.ensures in
+    let n = c.read-n.ensures in
     let behind = c.split_at.ensures.back_len in
     sym
     (front_broken c.args.bytes.now (omega arith)
@@ -29,7 +29,7 @@ returns-then-n-lt17 c =
 
 pub returns : goal.returns
 returns c =
-    let n = c.read_u16-n.ensures in
+    let n = c.read-n.ensures in
     let first = c.split_at.ensures in
     let second = c.split_at-2.ensures in
     rw (c.entry_of.ensures, second.front, second.back, first.back)
