@@ -61,8 +61,8 @@ fn open(image: &mut [u8], room: &mut [u8]) -> Run {
 fn aim(input: &mut [u8], kind: u16, offset: usize)
     requires { length input.old ≡ 65564 }
 {
-    fields::write_u16(input, 6, kind);
-    fields::write_u64(input, 16, offset as u64);
+    fields::write(input, 6, kind);
+    fields::write(input, 16, offset as u64);
 }
 
 // A WRITE of the input's payload at this offset, and a READ of as much.
@@ -103,8 +103,8 @@ fn copies(image: &mut [u8], input: &[u8], room: &mut [u8])
 fn prepare(input: &mut [u8])
     requires { length input.old ≡ 65564 }
 {
-    fields::write_u32(input, 0, 0x25609513);
-    fields::write_u32(input, 24, 65536);
+    fields::write(input, 0, 0x25609513u32);
+    fields::write(input, 24, 65536u32);
 }
 
 // Standard input is at its end, so nothing is read; but a compiler cannot know that, and leaves no round out.
@@ -154,7 +154,7 @@ fn bench(image: &mut [u8; IMAGE]) {
     let mut input = [7u8; INPUT];
     let mut room = [0u8; ROOM];
     prepare(&mut input);
-    let n = fields::read_u32(&order, 1);
+    let n = fields::read::<u32>(&order, 1);
     let moved = rounds(order[0] == b'r', n, image, &mut input, &mut room);
     show(moved, &room);
 }

@@ -175,9 +175,9 @@ fn flags_of(old: bool, head: [u8; 16]) -> u16
     ensures { result ≡ flags_of old head }
 {
     if old {
-        (fields::read_u32(&head, 8) % 65536) as u16
+        (fields::read::<u32>(&head, 8) % 65536) as u16
     } else {
-        fields::read_u16(&head, 8)
+        fields::read::<u16>(&head, 8)
     }
 }
 
@@ -192,7 +192,7 @@ fn judge_size_and_flags(name: usize, old: bool, head: [u8; 16], k: usize) -> Pha
     Phase::Shaking(
         name,
         Handshake::Filler(Filler {
-            size: fields::read_u64(&head, 0),
+            size: fields::read(&head, 0),
             flags: flags_of(old, head),
             clean: true,
             left: 124,
@@ -208,10 +208,10 @@ fn hello(n: u32) -> [u8; 20]
     ensures { result ≡ hello n }
 {
     let mut bytes = [0u8; 20];
-    fields::write_u32(&mut bytes, 0, consts::NBD_FLAG_C_FIXED_NEWSTYLE);
+    fields::write(&mut bytes, 0, consts::NBD_FLAG_C_FIXED_NEWSTYLE);
     bytes[4..12].copy_from_slice(&consts::IHAVEOPT);
-    fields::write_u32(&mut bytes, 12, consts::NBD_OPT_EXPORT_NAME);
-    fields::write_u32(&mut bytes, 16, n);
+    fields::write(&mut bytes, 12, consts::NBD_OPT_EXPORT_NAME);
+    fields::write(&mut bytes, 16, n);
     bytes
 }
 

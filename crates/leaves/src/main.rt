@@ -88,9 +88,9 @@ fn next(room: &mut [u8; LONGEST]) -> bool {
     }
     case(
         head[0],
-        fields::read_u64(&head, 1),
-        fields::read_u64(&head, 9),
-        fields::read_u16(&head, 17) as usize,
+        fields::read::<u64>(&head, 1),
+        fields::read::<u64>(&head, 9),
+        fields::read::<u16>(&head, 17) as usize,
         room,
     )
 }

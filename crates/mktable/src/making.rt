@@ -79,9 +79,9 @@ fn head(x: Export, len: usize) -> [u8; 19]
 {
     let mut h = [0u8; 19];
     let n = 17 + len;
-    fields::write_u16(&mut h, 0, n as u16);
-    fields::write_u64(&mut h, 2, x.start);
-    fields::write_u64(&mut h, 10, x.size);
+    fields::write(&mut h, 0, n as u16);
+    fields::write(&mut h, 2, x.start);
+    fields::write(&mut h, 10, x.size);
     h[18] = x.flags;
     h
 }

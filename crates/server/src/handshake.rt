@@ -36,7 +36,7 @@ fn judge_flags(head: [u8; 28], k: usize) -> Phase
     if k < 4 {
         return Phase::Shaking(Handshake::ClientFlags { have: k });
     }
-    let flags = fields::read_u32(&head, 0);
+    let flags = fields::read::<u32>(&head, 0);
     if flags == consts::NBD_FLAG_C_FIXED_NEWSTYLE {
         Phase::Shaking(Handshake::OptionHead {
             zeroes: true,
@@ -61,7 +61,7 @@ fn greeting() -> [u8; 134]
     let mut bytes = [0u8; 134];
     bytes[..8].copy_from_slice(&consts::NBDMAGIC);
     bytes[8..16].copy_from_slice(&consts::IHAVEOPT);
-    fields::write_u16(
+    fields::write(
         &mut bytes,
         16,
         consts::NBD_FLAG_FIXED_NEWSTYLE + consts::NBD_FLAG_NO_ZEROES,

@@ -16,8 +16,8 @@ fn header(size: u64, flags: u32) -> [u8; 152]
     let mut bytes = [0u8; 152];
     bytes[..8].copy_from_slice(&consts::NBDMAGIC);
     bytes[8..16].copy_from_slice(&consts::OLDSTYLE);
-    fields::write_u64(&mut bytes, 16, size);
-    fields::write_u32(&mut bytes, 24, flags);
+    fields::write(&mut bytes, 16, size);
+    fields::write(&mut bytes, 24, flags);
     bytes
 }
 

@@ -226,8 +226,8 @@ fn judge_option(zeroes: bool, table: &[u8], head: [u8; 28], k: usize) -> Phase
     if k < 16 {
         return Phase::Shaking(Handshake::OptionHead { zeroes, have: k });
     }
-    let option = fields::read_u32(&head, 8);
-    let len = fields::read_u32(&head, 12) as usize;
+    let option = fields::read::<u32>(&head, 8);
+    let len = fields::read::<u32>(&head, 12) as usize;
     payload(zeroes, table, option, len)
 }
 
@@ -239,10 +239,10 @@ pub fn option_reply(option: u32, typ: u32, len: u32) -> [u8; 134]
     ensures { take 20 result ≡ option_reply_head option typ len }
 {
     let mut bytes = [0u8; 134];
-    fields::write_u64(&mut bytes, 0, consts::NBD_OPT_REPLY_MAGIC);
-    fields::write_u32(&mut bytes, 8, option);
-    fields::write_u32(&mut bytes, 12, typ);
-    fields::write_u32(&mut bytes, 16, len);
+    fields::write(&mut bytes, 0, consts::NBD_OPT_REPLY_MAGIC);
+    fields::write(&mut bytes, 8, option);
+    fields::write(&mut bytes, 12, typ);
+    fields::write(&mut bytes, 16, len);
     bytes
 }
 
@@ -253,7 +253,7 @@ pub fn list_replies() -> [u8; 134]
     let ack = option_reply(consts::NBD_OPT_LIST, consts::NBD_REP_ACK, 0);
     let mut bytes = [0u8; 134];
     copy::copy_part(&server, 0, &mut bytes, 0, 20);
-    fields::write_u32(&mut bytes, 20, 7);
+    fields::write(&mut bytes, 20, 7u32);
     copy::copy_part(&consts::RUSTNBD, 0, &mut bytes, 24, 7);
     copy::copy_part(&ack, 0, &mut bytes, 31, 20);
     bytes
@@ -265,8 +265,8 @@ pub fn export_reply(export: Export) -> [u8; 134]
     ensures { result ≡ exported true export }
 {
     let mut bytes = [0u8; 134];
-    fields::write_u64(&mut bytes, 0, export.size);
-    fields::write_u16(&mut bytes, 8, table::wire_flags(export.flags));
+    fields::write(&mut bytes, 0, export.size);
+    fields::write(&mut bytes, 8, table::wire_flags(export.flags));
     bytes
 }
 

@@ -37,10 +37,10 @@ impl From<&[u8; 28]> for Request {
 
     fn from(head: &[u8; 28]) -> Request {
         Request {
-            typ: fields::read_u16(head, 6),
-            handle: fields::read_u64(head, 8),
-            offset: fields::read_u64(head, 16),
-            len: fields::read_u32(head, 24),
+            typ: fields::read(head, 6),
+            handle: fields::read(head, 8),
+            offset: fields::read(head, 16),
+            len: fields::read(head, 24),
         }
     }
 }

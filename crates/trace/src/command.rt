@@ -26,7 +26,7 @@ pub enum Kept {
 
 // The room's size, the first 4 bytes.
 fn room(payload: &[u8; STILL]) -> Result<Size, BadScript> {
-    Size::new(fields::read_u32(payload, 0) as usize).ok_or(BadScript)
+    Size::new(fields::read::<u32>(payload, 0) as usize).ok_or(BadScript)
 }
 
 // `s` and `c`: the room's size (4), and the input.
@@ -46,8 +46,8 @@ fn head(size: Size, payload: &[u8; STILL]) -> Result<Head, BadScript> {
     }
     Ok(Head {
         room,
-        size: fields::read_u64(payload, 4),
-        flags: fields::read_u32(payload, 12),
+        size: fields::read(payload, 4),
+        flags: fields::read(payload, 12),
     })
 }
 
@@ -56,7 +56,7 @@ fn place(size: Size, payload: &[u8; STILL]) -> Result<SeekFrom, BadScript> {
     if size.bytes != 9 {
         return Err(BadScript);
     }
-    let x = fields::read_u64(payload, 1);
+    let x = fields::read::<u64>(payload, 1);
     match payload[0] {
         0 => Ok(SeekFrom::Start(x)),
         1 => Ok(SeekFrom::Current(number::signed(x))),
@@ -68,7 +68,7 @@ fn place(size: Size, payload: &[u8; STILL]) -> Result<SeekFrom, BadScript> {
 // `t` and `z`: a length or a new size (8).
 fn length(size: Size, payload: &[u8; STILL]) -> Result<u64, BadScript> {
     if size.bytes == 8 {
-        Ok(fields::read_u64(payload, 0))
+        Ok(fields::read::<u64>(payload, 0))
     } else {
         Err(BadScript)
     }

@@ -28,7 +28,7 @@ pub fn next() -> Result<Option<Record>, BadScript> {
     if got < 5 {
         return Err(BadScript);
     }
-    let size = Size::new(fields::read_u32(&head, 1) as usize).ok_or(BadScript)?;
+    let size = Size::new(fields::read::<u32>(&head, 1) as usize).ok_or(BadScript)?;
     Ok(Some(Record {
         letter: head[0],
         size,

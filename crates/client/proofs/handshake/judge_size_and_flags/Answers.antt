@@ -13,4 +13,4 @@ returns-then-k-size_and_flags_length c =
 pub returns : goal.returns
 returns c =
     let a = c.args in
-    rw (c.read_u64.ensures, c.flags_of.ensures) (terms_whole a.name a.old a.head a.k (search rules) (rw c.size_and_flags_length.ensures at c.if-k-size_and_flags_length.false) c.requires)
+    rw (c.read.ensures, c.flags_of.ensures) (terms_whole a.name a.old a.head a.k (search rules) (rw c.size_and_flags_length.ensures at c.if-k-size_and_flags_length.false) c.requires)

@@ -14,4 +14,4 @@ pub returns-then-k-lt16 : goal.returns-then-k-lt16
 returns-then-k-lt16 c = option_part _ _ _ _ (search rules) c.if-k-eq8.false c.if-k-lt16.true
 
 pub returns : goal.returns
-returns c = c.payload.ensures _ ∙ rw (c.read_u32-len.ensures, c.read_u32-option.ensures) (option_whole _ _ _ _ (search rules) c.requires c.if-k-lt16.false)
+returns c = c.payload.ensures _ ∙ rw (c.read-len.ensures, c.read-option.ensures) (option_whole _ _ _ _ (search rules) c.requires c.if-k-lt16.false)
