@@ -94,9 +94,9 @@ impl Exchange {
     fn replied(self, bytes: [u8; 16]) -> Phase
         ensures { (h : List ℕ) → view_of h result ≡ replied self.device self.call bytes }
     {
-        let signature = fields::read_u32(&bytes, 0);
-        let error = fields::read_u32(&bytes, 4);
-        let handle = fields::read_u64(&bytes, 8);
+        let signature = fields::read::<u32>(&bytes, 0);
+        let error = fields::read::<u32>(&bytes, 4);
+        let handle = fields::read::<u64>(&bytes, 8);
         if signature != consts::NBD_REPLY_MAGIC {
             return Phase::Over(Ending::Signature as u8);
         }

@@ -97,21 +97,6 @@ pub fn read<T: Field>(s: &[u8], at: usize) -> T
     T::from_wide(number(&s[at..at + T::BYTES]))
 }
 
-// The client's replies still read so.
-pub fn read_u32(s: &[u8], at: usize) -> u32
-    requires { at + 4 ≤ length s.now }
-    ensures { result ≡ field s.now at 4 }
-{
-    read(s, at)
-}
-
-pub fn read_u64(s: &[u8], at: usize) -> u64
-    requires { at + 8 ≤ length s.now }
-    ensures { result ≡ field s.now at 8 }
-{
-    read(s, at)
-}
-
 // Writes the n low bytes of x from `at` on.
 fn put_number(dst: &mut [u8], at: usize, n: usize, x: u64)
     requires { (n ≤ 8) × (at + n ≤ length dst.old) }
