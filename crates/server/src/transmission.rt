@@ -32,9 +32,9 @@ fn simple_reply(error: u32, handle: u64) -> [u8; 16]
     ensures { result ≡ simple_reply error handle }
 {
     let mut bytes = [0u8; 16];
-    fields::write_u32(&mut bytes, 0, consts::NBD_REPLY_MAGIC);
-    fields::write_u32(&mut bytes, 4, error);
-    fields::write_u64(&mut bytes, 8, handle);
+    fields::write(&mut bytes, 0, consts::NBD_REPLY_MAGIC);
+    fields::write(&mut bytes, 4, error);
+    fields::write(&mut bytes, 8, handle);
     bytes
 }
 
@@ -162,7 +162,7 @@ impl Service {
         ensures { view_of bytes result ≡ requested self.export (take k bytes) }
     {
         if k == 4 {
-            if fields::read_u32(&bytes, 0) == consts::NBD_REQUEST_MAGIC {
+            if fields::read::<u32>(&bytes, 0) == consts::NBD_REQUEST_MAGIC {
                 return Phase::Serving(self.export, Transmission::Header { have: 4 });
             }
             return Phase::Over(Ending::RequestMagic as u8);
