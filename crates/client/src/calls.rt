@@ -125,10 +125,10 @@ impl Call {
         ensures { result ≡ request_bytes d self }
     {
         let mut bytes = [0u8; 28];
-        fields::write_u32(&mut bytes, 0, consts::NBD_REQUEST_MAGIC);
-        fields::write_u16(&mut bytes, 6, self.type_of());
-        fields::write_u64(&mut bytes, 16, self.offset_of(d));
-        fields::write_u32(&mut bytes, 24, self.amount());
+        fields::write(&mut bytes, 0, consts::NBD_REQUEST_MAGIC);
+        fields::write(&mut bytes, 6, self.type_of());
+        fields::write(&mut bytes, 16, self.offset_of(d));
+        fields::write(&mut bytes, 24, self.amount());
         bytes
     }
 
