@@ -69,7 +69,6 @@ impl Device {
 impl Call {
     // ---- what it names, sends and is sent
 
-<<<<<<< HEAD
     pub(crate) fn amount(self) -> u32
         ensures { result ≡ amount self }
     {
@@ -141,101 +140,5 @@ impl Call {
             Call::Read { n, .. } | Call::Write { n, .. } => Value::Bytes(n),
             _ => Value::Nothing,
         }
-=======
-pub fn amount(c: Call) -> u32
-    ensures { result ≡ amount c }
-{
-    match c {
-        Call::Read { n, .. } => n,
-        Call::Write { n, .. } => n,
-        Call::Trim { n } => n,
-        _ => 0,
-    }
-}
-
-pub fn payload(c: Call) -> u32
-    ensures { result ≡ payload c }
-{
-    match c {
-        Call::Write { n, .. } => n,
-        _ => 0,
-    }
-}
-
-pub fn wanted(c: Call) -> u32
-    ensures { result ≡ wanted c }
-{
-    match c {
-        Call::Read { n, .. } => n,
-        _ => 0,
-    }
-}
-
-fn type_of(c: Call) -> u16
-    ensures { result ≡ type_of c }
-{
-    match c {
-        Call::Read { .. } => consts::NBD_CMD_READ,
-        Call::Write { .. } => consts::NBD_CMD_WRITE,
-        Call::Flush => consts::NBD_CMD_FLUSH,
-        Call::Trim { .. } => consts::NBD_CMD_TRIM,
-        Call::Resize { .. } => consts::NBD_CMD_RESIZE,
-    }
-}
-
-fn offset_of(d: Device, c: Call) -> u64
-    ensures { result ≡ offset_of d c }
-{
-    match c {
-        Call::Read { .. } => d.position,
-        Call::Write { .. } => d.position,
-        Call::Flush => 0,
-        Call::Trim { .. } => d.position,
-        Call::Resize { size } => size,
-    }
-}
-
-// A request; its flags and its handle are 0.
-#[tactic(auto, unfolding(wire::specs::Layouts::request, wire::specs::Fields::be))]
-pub fn request_bytes(d: Device, c: Call) -> [u8; 28]
-    ensures { result ≡ request_bytes d c }
-{
-    let mut bytes = [0u8; 28];
-    fields::write(&mut bytes, 0, consts::NBD_REQUEST_MAGIC);
-    fields::write(&mut bytes, 6, type_of(c));
-    fields::write(&mut bytes, 16, offset_of(d, c));
-    fields::write(&mut bytes, 24, amount(c));
-    bytes
-}
-
-// ---- a call that succeeds
-
-pub fn positioned(d: Device, p: u64) -> Device
-    ensures { result ≡ positioned d p }
-{
-    Device { position: p, ..d }
-}
-
-pub fn value_of(c: Call) -> Value
-    ensures { result ≡ value_of c }
-{
-    match c {
-        Call::Read { n, .. } => Value::Bytes(n),
-        Call::Write { n, .. } => Value::Bytes(n),
-        _ => Value::Nothing,
-    }
-}
-
-// The device after a call that succeeds.
-pub fn moved(d: Device, c: Call) -> Device
-    requires { GoodCall d c }
-    ensures { result ≡ moved d c }
-{
-    match c {
-        Call::Read { n, .. } => positioned(d, d.position + n as u64),
-        Call::Write { n, .. } => positioned(d, d.position + n as u64),
-        Call::Resize { size } => Device { size, ..d },
-        _ => d,
->>>>>>> 371f2a2 (fields::read and fields::write, over the trait Field, in place of the six: all callers but the client's replies)
     }
 }
