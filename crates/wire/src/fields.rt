@@ -116,6 +116,7 @@ pub fn write<T: Field>(dst: &mut [u8], at: usize, x: T)
 }
 
 // Whether two slices of one length hold the same bytes.
+#[tactic(auto, using(crate::proofs::BigEndian::same_pointwise))]
 pub fn same(a: &[u8], b: &[u8]) -> bool
     requires { length a.now ≡ length b.now }
     ensures { result ≡ same_bytes a.now b.now }
