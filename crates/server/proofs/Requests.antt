@@ -23,6 +23,7 @@ use Rattle.wire.proofs.BigEndian.{number_be}
 use Rattle.server.specs.Request.{request_of, owed}
 use Rattle.server.specs.Session.{State, Header, Serving, Over, window, begun, requested, turn}
 use Rattle.server.specs.Exchanges.{UnknownType, asked, Fits}
+use Rattle.server.specs.declared.ending.Ending.TheVariants.{Disconnected, UnknownRequest}
 use Rattle.server.specs.declared.request.Answer.{Answer}
 use Rattle.server.specs.declared.request.Answer.TheVariants.{Silence, Reply, Data, Store, Swallow, End}
 use Rattle.server.proofs.Header.{each_request, quiet_request}
@@ -118,7 +119,7 @@ module _ (t m : List ℕ) (e : Export) where
     module _ (len : ℕ) (len_fits : len < 2 ^ 32) where
       pub whole_disc : Moves (turn t) (on ready m) (request flags NBD_CMD_DISC handle offset len) [] (on (Over 0) m)
       unfolding owed
-      whole_disc = owed_begins flags (fields (omega arith) len_fits) (End 0) refl
+      whole_disc = owed_begins flags (fields (omega arith) len_fits) (End Disconnected) refl
 
       pub whole_flush : Moves (turn t) (on ready m) (request flags NBD_CMD_FLUSH handle offset len) (simple_reply 0 handle) (on ready m)
       unfolding owed
@@ -132,7 +133,7 @@ module _ (t m : List ℕ) (e : Export) where
       unfolding owed
       whole_write_zeroes = and_gives t (owed_begins flags (fields (omega arith) len_fits) (Reply NBD_ENOSYS) refl) (reply_given t m e NBD_ENOSYS handle 0 0)
 
-      ends : (type : ℕ) → UnknownType type → owed e (asked type handle offset len) ≡ End 11
+      ends : (type : ℕ) → UnknownType type → owed e (asked type handle offset len) ≡ End UnknownRequest
       unfolding owed
       ends type (inl h) = rw h
       ends type (inr h) =
@@ -146,4 +147,4 @@ module _ (t m : List ℕ) (e : Export) where
           )
 
       pub whole_unknown_request : (type : ℕ) → type < 2 ^ 16 → UnknownType type → Moves (turn t) (on ready m) (request flags type handle offset len) [] (on (Over 11) m)
-      whole_unknown_request type fits u = owed_begins flags (fields fits len_fits) (End 11) (ends type u)
+      whole_unknown_request type fits u = owed_begins flags (fields fits len_fits) (End UnknownRequest) (ends type u)

@@ -9,6 +9,7 @@ use Rattle.wire.specs.Fields.{field}
 use Rattle.wire.specs.Constants.{NBD_CMD_READ, NBD_CMD_WRITE, NBD_CMD_DISC, NBD_CMD_FLUSH, NBD_CMD_TRIM, NBD_CMD_WRITE_ZEROES, NBD_EPERM, NBD_EINVAL, NBD_ENOSPC, NBD_ENOSYS}
 use Rattle.wire.specs.Table.{read_only}
 use Rattle.wire.specs.declared.table.Export.{Export}
+use Rattle.server.specs.declared.ending.Ending.TheVariants.{Disconnected, UnknownRequest}
 use Rattle.server.specs.declared.request.Request.{Request}
 use Rattle.server.specs.declared.request.Answer.{Answer}
 use Rattle.server.specs.declared.request.Answer.TheVariants.{Silence, Reply, Data, Store, Swallow, End}
@@ -30,7 +31,7 @@ unfoldable pub owed : Export → Request → Answer
 owed e r =
     pick (eqb r.typ NBD_CMD_READ) (owed_read e r)
     (pick (eqb r.typ NBD_CMD_WRITE) (owed_write e r)
-    (pick (eqb r.typ NBD_CMD_DISC) (End 0)
+    (pick (eqb r.typ NBD_CMD_DISC) (End Disconnected)
     (pick (eqb r.typ NBD_CMD_FLUSH) (Reply 0)
     (pick (eqb r.typ NBD_CMD_TRIM) (Reply NBD_ENOSYS)
-    (pick (eqb r.typ NBD_CMD_WRITE_ZEROES) (Reply NBD_ENOSYS) (End 11))))))
+    (pick (eqb r.typ NBD_CMD_WRITE_ZEROES) (Reply NBD_ENOSYS) (End UnknownRequest))))))

@@ -21,6 +21,7 @@
 --   found, named                   a name whose last byte was taken: by the record that is chosen; by the set and the text
 --   naming                         the state when so many bytes of a name are left
 --   payload, judge_option           the state after an option's 16 bytes; the state after so many of them
+--   ending_number why              01's number for each end that the code names
 --   begun, requested               the state after a request's 28 bytes, by what it is owed; the state after so many of them
 --   turn t                         one byte, with the table t and the image lent
 use Rattle.std.specs.Prelude.{ℕ, zero, suc, ◌+◌, Bool, true, false, List, [], ◌∷◌, ◌++◌, eqb, ltb, leb, length, get_or, set, take, drop, Option, None, Some}
@@ -37,6 +38,8 @@ use Rattle.wire.specs.declared.utf8.Utf8.{Utf8}
 use Rattle.wire.specs.declared.utf8.Utf8.TheVariants.{Start}
 use Rattle.wire.specs.declared.table.Export.{Export}
 use Rattle.server.specs.Request.{request_of, owed}
+use Rattle.server.specs.declared.ending.Ending.{Ending}
+use Rattle.server.specs.declared.ending.Ending.TheVariants as ending
 use Rattle.server.specs.declared.request.Request.{Request}
 use Rattle.server.specs.declared.request.Answer.{Answer}
 use Rattle.server.specs.declared.request.Answer.TheVariants.{Silence, Reply, Data, Store, Swallow, End}
@@ -174,6 +177,22 @@ judge_option z t h =
     pick (eqb (length h) 8) (pick (same_bytes h IHAVEOPT) (Shaking (OptionHead z h)) (Over 2))
     (pick (ltb (length h) 16) (Shaking (OptionHead z h)) (payload z t (field h 8 4) (field h 12 4)))
 
+-- ---- the ends of a session, by 01's numbers
+abbrev pub ending_number : Ending → ℕ
+ending_number ending.Disconnected = 0
+ending_number ending.ClientFlags = 1
+ending_number ending.OptionMagic = 2
+ending_number ending.OptionLength = 3
+ending_number ending.ListPayload = 4
+ending_number ending.NameText = 5
+ending_number ending.UnknownName = 6
+ending_number ending.Aborted = 7
+ending_number ending.StartTls = 8
+ending_number ending.UnknownOption = 9
+ending_number ending.RequestMagic = 10
+ending_number ending.UnknownRequest = 11
+ending_number ending.InputEnded = 12
+
 -- ---- a request's 28 bytes: "The magic is judged after 4 bytes, the type after all 28"
 abbrev pub begun : Export → Request → Answer → State
 begun e r Silence = Serving e (Header [])
@@ -181,7 +200,7 @@ begun e r (Reply error) = answering e error r.handle
 begun e r Data = Serving e (Replying 0 r.handle 16 r.offset r.len)
 begun e r Store = storing e r.handle r.offset r.len
 begun e r (Swallow error) = dropping e error r.handle r.len
-begun e r (End n) = Over n
+begun e r (End why) = Over (ending_number why)
 
 unfoldable pub requested : Export → List ℕ → State
 requested e h =

@@ -19,7 +19,7 @@ pub struct Request {
 #[derive(Clone, Copy)]
 pub enum Answer {
     Silence,
-    // a reply with this error, 0 for none
+    // a reply with this error, as it stands on the wire: 0 for none
     Reply(u32),
     // a reply with error 0, and the bytes asked for
     Data,
@@ -27,8 +27,8 @@ pub enum Answer {
     Store,
     // the payload is taken and dropped, then a reply with this error
     Swallow(u32),
-    // the session ends with this number
-    End(u8),
+    // the session ends
+    End(Ending),
 }
 
 // The fields of a request's 28 bytes.
@@ -92,12 +92,12 @@ impl Request {
         match self.typ {
             consts::NBD_CMD_READ => self.owed_read(e),
             consts::NBD_CMD_WRITE => self.owed_write(e),
-            consts::NBD_CMD_DISC => Answer::End(Ending::Disconnected as u8),
+            consts::NBD_CMD_DISC => Answer::End(Ending::Disconnected),
             consts::NBD_CMD_FLUSH => Answer::Reply(0),
             consts::NBD_CMD_TRIM | consts::NBD_CMD_WRITE_ZEROES => Answer::Reply(
                 consts::NBD_ENOSYS,
             ),
-            _ => Answer::End(Ending::UnknownRequest as u8),
+            _ => Answer::End(Ending::UnknownRequest),
         }
     }
 }

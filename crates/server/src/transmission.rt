@@ -152,7 +152,7 @@ impl Service {
                 handle,
                 left: len,
             }),
-            Answer::End(n) => Phase::Over(n),
+            Answer::End(why) => Phase::Over(why as u8),
         }
     }
 
