@@ -8,7 +8,6 @@ mod numbers;
 mod say;
 mod texts;
 
-use machine::copy::least;
 use wire::table::Fault;
 use wire::{fields, table};
 
@@ -71,7 +70,7 @@ fn over(cut: bool) -> bool {
 
 // Reads a payload of so many bytes, and writes the case's line. Whether a case may come after it.
 fn case(letter: u8, x: u64, y: u64, size: usize, room: &mut [u8]) -> bool {
-    let n = least(size, room.len());
+    let n = size.min(room.len());
     if io::read_full(STDIN, &mut room[0..n]) < size {
         return over(true);
     }
@@ -95,14 +94,11 @@ fn next(room: &mut [u8; LONGEST]) -> bool {
     )
 }
 
-// A proved loop has to end, and nothing says that the input does: its turns count down from a number that no run uses up.
+// A proved loop has to end, and nothing says that the input does: it has as many turns as no run uses up.
 fn all(room: &mut [u8; LONGEST]) {
-    let mut turns = u64::MAX;
-    while turns > 0 {
-        if next(room) {
-            turns -= 1;
-        } else {
-            turns = 0;
+    for _ in 0..u64::MAX {
+        if !next(room) {
+            return;
         }
     }
 }

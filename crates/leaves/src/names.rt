@@ -17,11 +17,8 @@ fn singly(t: &[u8], name: &[u8]) -> Option<usize>
     ensures { result ≡ found (records t.now) name.now }
 {
     let mut set = lookup::started(t, name.len());
-    let mut i = 0;
-    while i < name.len() {
-        let next = i + 1;
-        set = lookup::narrowed(set, t, i, &name[i..next]);
-        i = next;
+    for (i, b) in name.iter().enumerate() {
+        set = lookup::narrowed(set, t, i, &[*b]);
     }
     lookup::lowest(set)
 }

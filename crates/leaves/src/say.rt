@@ -8,8 +8,7 @@ pub fn text(s: &[u8]) {
 }
 
 pub fn letter(b: u8) {
-    let s = [b];
-    text(&s);
+    text(&[b]);
 }
 
 // A space and the number.
@@ -24,9 +23,7 @@ fn byte(b: u8) {
 }
 
 pub fn bytes(s: &[u8]) {
-    let mut i = 0;
-    while i < s.len() {
-        byte(s[i]);
-        i += 1;
+    for b in s {
+        byte(*b);
     }
 }

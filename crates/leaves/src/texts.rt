@@ -11,14 +11,8 @@ fn stands(u: Utf8) -> u8
 {
     match u {
         Utf8::Start => b'w',
-        Utf8::Tail1 => b'c',
-        Utf8::Tail2 => b'c',
-        Utf8::Tail3 => b'c',
-        Utf8::AfterE0 => b'c',
-        Utf8::AfterED => b'c',
-        Utf8::AfterF0 => b'c',
-        Utf8::AfterF4 => b'c',
         Utf8::Bad => b'b',
+        _ => b'c',
     }
 }
 
@@ -31,10 +25,8 @@ fn singly(v: &[u8]) -> Utf8
     ensures { result ≡ run Utf8.Start v.now }
 {
     let mut u = Utf8::new();
-    let mut i = 0;
-    while i < v.len() {
-        u = u.next(v[i]);
-        i += 1;
+    for b in v {
+        u = u.next(*b);
     }
     u
 }
@@ -44,16 +36,14 @@ fn in_two(v: &[u8], k: usize) -> Utf8
     requires { k ≤ length v.now }
     ensures { result ≡ run Utf8.Start v.now }
 {
-    let u = Utf8::new().run(&v[..k]);
-    u.run(&v[k..])
+    let (front, back) = v.split_at(k);
+    Utf8::new().run(front).run(back)
 }
 
 // Cut at each place, from before the first byte to behind the last.
 fn each_cut(v: &[u8]) {
-    let mut k = 0;
-    while k <= v.len() {
+    for k in 0..=v.len() {
         show(in_two(v, k));
-        k += 1;
     }
 }
 
@@ -71,16 +61,13 @@ pub fn text(v: &[u8]) {
 fn pair(a: u8, b: u8) -> Utf8
     ensures { result ≡ run Utf8.Start (a ∷ b ∷ []) }
 {
-    let v = [a, b];
-    Utf8::new().run(&v)
+    Utf8::new().run(&[a, b])
 }
 
 // The first byte a with each second byte.
 pub fn pairs(a: u8) {
     say::letter(b' ');
-    let mut b: u16 = 0;
-    while b < 256 {
-        show(pair(a, b as u8));
-        b += 1;
+    for b in 0..=u8::MAX {
+        show(pair(a, b));
     }
 }

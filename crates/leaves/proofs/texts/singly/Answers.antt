@@ -4,14 +4,14 @@ use lib.ListN.{drop_of_length-le}
 use lib.Seq.{drop-cons}
 use Rattle.leaves.proofs.texts.singly.Goals as goal
 
-pub loop-i-preserved : goal.loop-i-preserved
-loop-i-preserved c =
-    let l = c.loop-i in
+pub loop-b-preserved : goal.loop-b-preserved
+loop-b-preserved c =
+    let l = c.loop-b in
     let v = c.args.v.now in
-    (omega arith, rw (add-one l.i, c.next-u.ensures) (rw (drop-cons v l.i 0 (omega arith)) at l.invariant.1))
+    rw (add-one l.b-index, c.next-u.ensures) (rw (drop-cons v l.b-index 0 (omega arith)) at l.invariant)
 
 pub returns : goal.returns
 returns c =
-    let l = c.loop-i in
+    let l = c.loop-b in
     let v = c.args.v.now in
-    rw (← c.new-u.ensures, ← l.invariant.1, drop_of_length-le v {i = l.i} (omega arith))
+    rw (← c.new-u.ensures, ← l.invariant, drop_of_length-le v {i = l.b-index} (omega arith))

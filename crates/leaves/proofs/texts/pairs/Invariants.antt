@@ -1,9 +1,0 @@
--- The second byte only rises, to 256.
-use Prim.Native.Nat.{◌-◌, ◌≤◌}
-use Rattle.leaves.proofs.texts.pairs.Given as goal
-
-abbrev pub invariant-loop-b : goal.invariant-loop-b
-invariant-loop-b l = l.b ≤ 256
-
-abbrev pub decreases-loop-b : goal.decreases-loop-b
-decreases-loop-b l = 256 - l.b
