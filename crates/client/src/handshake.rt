@@ -223,13 +223,6 @@ pub struct Shake {
 }
 
 impl Shake {
-    fn at(self, phase: Phase) -> Client
-        ensures { result ≡ record { phase = phase; head = self.head } }
-    {
-        let head = self.head;
-        Client { phase, head }
-    }
-
     // ---- one leaf for each phase
 
     fn take_magic(self, have: usize, input: &[u8]) -> Took<Client>
@@ -271,7 +264,7 @@ impl Shake {
     {
         let n = left.min(count);
         Took {
-            state: self.at(newstyle(self.name, left - n)),
+            state: Client::from_parts(newstyle(self.name, left - n), self.head),
             taken: n,
         }
     }
@@ -282,7 +275,7 @@ impl Shake {
     {
         let n = parts::give(&hello(self.name as u32), left, room);
         Gave {
-            state: self.at(greeting(self.name, left - n)),
+            state: Client::from_parts(greeting(self.name, left - n), self.head),
             given: n,
         }
     }
@@ -293,7 +286,7 @@ impl Shake {
     {
         let n = parts::give(lent, left, room);
         Gave {
-            state: self.at(naming(self.name, left - n)),
+            state: Client::from_parts(naming(self.name, left - n), self.head),
             given: n,
         }
     }
@@ -325,7 +318,7 @@ impl Shake {
             ..f
         };
         Took {
-            state: self.at(filler(self.name, after)),
+            state: Client::from_parts(filler(self.name, after), self.head),
             taken: n,
         }
     }
@@ -343,7 +336,7 @@ impl Shake {
             Handshake::Newstyle { left } => self.skip_flags(left, input.len()),
             Handshake::SizeAndFlags { old, have } => self.take_size_and_flags(old, have, input),
             Handshake::Filler(f) => self.take_filler(f, input),
-            _ => Took::none(self.at(Phase::Shaking(self.name, p))),
+            _ => Took::none(Client::from_parts(Phase::Shaking(self.name, p), self.head)),
         }
     }
 
@@ -355,7 +348,7 @@ impl Shake {
         match p {
             Handshake::Hello { left } => self.send_hello(left, room),
             Handshake::Naming { left } => self.send_name(left, lent, room),
-            _ => Gave::none(self.at(Phase::Shaking(self.name, p))),
+            _ => Gave::none(Client::from_parts(Phase::Shaking(self.name, p), self.head)),
         }
     }
 }

@@ -110,14 +110,18 @@ fn begun(d: Device, c: Call) -> Called
 }
 
 impl Client {
+    // At a phase, with what is gathered.
+    fn from_parts(phase: Phase, head: [u8; 16]) -> Client
+        ensures { result ≡ record { phase = phase; head = head } }
+    {
+        Client { phase, head }
+    }
+
     // At a phase that uses no byte of `head`.
     fn at(phase: Phase) -> Client
         ensures { result ≡ record { phase = phase; head = replicate 16 0 } }
     {
-        Client {
-            phase,
-            head: [0u8; 16],
-        }
+        Client::from_parts(phase, [0u8; 16])
     }
 
     // A client before its handshake.

@@ -35,13 +35,6 @@ pub struct Exchange {
 }
 
 impl Exchange {
-    fn at(self, phase: Phase) -> Client
-        ensures { result ≡ record { phase = phase; head = self.head } }
-    {
-        let head = self.head;
-        Client { phase, head }
-    }
-
     // ---- the phases that follow where nothing may be left
 
     fn calling(self, progress: Progress) -> Phase
@@ -131,7 +124,7 @@ impl Exchange {
         let bytes = self.call.request_bytes(self.device);
         let n = parts::give(&bytes, left, room);
         Gave {
-            state: self.at(self.after_request(left - n)),
+            state: Client::from_parts(self.after_request(left - n), self.head),
             given: n,
         }
     }
@@ -144,7 +137,7 @@ impl Exchange {
         let all = self.call.payload() as usize;
         let n = parts::give(&lent[..all], left, room);
         Gave {
-            state: self.at(self.paying(left - n)),
+            state: Client::from_parts(self.paying(left - n), self.head),
             given: n,
         }
     }
@@ -174,7 +167,7 @@ impl Exchange {
         let n = left.min(input.len());
         copy::copy_part(input, 0, lent, all - left, n);
         Took {
-            state: self.at(self.filling(left - n)),
+            state: Client::from_parts(self.filling(left - n), self.head),
             taken: n,
         }
     }
@@ -189,7 +182,7 @@ impl Exchange {
         match p {
             Progress::Hearing { have } => self.hear(have, input),
             Progress::Filling { left } => self.fill(left, input, lent),
-            _ => Took::none(self.at(self.calling(p))),
+            _ => Took::none(Client::from_parts(self.calling(p), self.head)),
         }
     }
 
@@ -201,7 +194,7 @@ impl Exchange {
         match p {
             Progress::Asking { left } => self.send_request(left, room),
             Progress::Paying { left } => self.pay(left, lent, room),
-            _ => Gave::none(self.at(self.calling(p))),
+            _ => Gave::none(Client::from_parts(self.calling(p), self.head)),
         }
     }
 }

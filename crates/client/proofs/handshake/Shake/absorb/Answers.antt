@@ -8,7 +8,7 @@ pub returns-in_default : goal.returns-in_default
 returns-in_default c =
     let a = c.args in
     let n = c.in_default in
-    λ m. rw (c.none.ensures, c.at.ensures) (absorbs_idle (shaking_wants a.self.name a.self.head m a.p n.not-Magic n.not-Style n.not-Newstyle n.not-SizeAndFlags n.not-Filler))
+    λ m. rw (c.none.ensures, c.from_parts.ensures) (absorbs_idle (shaking_wants a.self.name a.self.head m a.p n.not-Magic n.not-Style n.not-Newstyle n.not-SizeAndFlags n.not-Filler))
 
 pub returns-in-Magic : goal.returns-in-Magic
 returns-in-Magic c = λ m. rw c.in-Magic.is (c.take_magic.ensures m)

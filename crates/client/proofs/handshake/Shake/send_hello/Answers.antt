@@ -10,4 +10,4 @@ pub returns : goal.returns
 returns c =
     let a = c.args in
     let p = c.requires in
-    λ m. owed_leaf (greeting a.self.name) (hello a.self.name) m (λ _. refl) c.hello.ensures p.1.0 (rw (length_hello a.self.name) p.1.1) (greeting_more a.self.name a.left (omega arith)) c.give-n.ensures (rw c.at.ensures (c.greeting.ensures a.self.head))
+    λ m. owed_leaf (greeting a.self.name) (hello a.self.name) m (λ _. refl) c.hello.ensures p.1.0 (rw (length_hello a.self.name) p.1.1) (greeting_more a.self.name a.left (omega arith)) c.give-n.ensures (rw c.from_parts.ensures (c.greeting.ensures a.self.head))

@@ -10,4 +10,4 @@ pub returns : goal.returns
 returns c =
     let a = c.args in
     let p = c.requires in
-    owed_leaf (naming a.self.name) a.lent.now a.lent.now (λ _. refl) refl p.1.0 (omega arith) (naming_more a.self.name a.left (omega arith)) c.give-n.ensures (rw c.at.ensures (c.naming.ensures a.self.head))
+    owed_leaf (naming a.self.name) a.lent.now a.lent.now (λ _. refl) refl p.1.0 (omega arith) (naming_more a.self.name a.left (omega arith)) c.give-n.ensures (rw c.from_parts.ensures (c.naming.ensures a.self.head))

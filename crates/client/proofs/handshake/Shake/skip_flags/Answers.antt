@@ -3,4 +3,4 @@ use Rattle.client.proofs.Runs.{skip_leaf}
 use Rattle.client.proofs.handshake.Shake.skip_flags.Goals as goal
 
 pub returns : goal.returns
-returns c = λ m input e. skip_leaf _ c.requires (rw e c.min-n.ensures) (rw c.at.ensures (c.newstyle.ensures _))
+returns c = λ m input e. skip_leaf _ c.requires (rw e c.min-n.ensures) (rw c.from_parts.ensures (c.newstyle.ensures _))

@@ -11,4 +11,4 @@ returns c =
     let p = c.requires in
     let n = c.min-n.result in
     let place = ap (λ (all : ℕ). paste a.lent.now (all - a.left) a.input.now n) c.wanted-all.ensures in
-    fill_leaf a.self.device a.self.call p.1.0 p.1.1 p.0 c.min-n.ensures (rw c.at.ensures (c.filling.ensures a.self.head)) (c.copy_part.ensures ∙ place)
+    fill_leaf a.self.device a.self.call p.1.0 p.1.1 p.0 c.min-n.ensures (rw c.from_parts.ensures (c.filling.ensures a.self.head)) (c.copy_part.ensures ∙ place)

@@ -18,4 +18,4 @@ pub returns : goal.returns
 returns c =
     let a = c.args in
     let p = c.requires in
-    owed_leaf (paying a.self.device a.self.call) (take (payload a.self.call) a.lent.now) a.lent.now (λ _. refl) (rw c.payload-all.ensures) p.1.0 (omega (arith, length-take (payload a.self.call) a.lent.now)) (paying_more a.self.device a.self.call a.left (omega arith)) c.give-n.ensures (rw c.at.ensures (c.paying.ensures a.self.head))
+    owed_leaf (paying a.self.device a.self.call) (take (payload a.self.call) a.lent.now) a.lent.now (λ _. refl) (rw c.payload-all.ensures) p.1.0 (omega (arith, length-take (payload a.self.call) a.lent.now)) (paying_more a.self.device a.self.call a.left (omega arith)) c.give-n.ensures (rw c.from_parts.ensures (c.paying.ensures a.self.head))

@@ -11,4 +11,4 @@ pub returns : goal.returns
 returns c =
     let a = c.args in
     let p = c.requires in
-    λ m. owed_leaf (after_request a.self.device a.self.call) (request_bytes a.self.device a.self.call) m (λ _. refl) c.request_bytes-bytes.ensures p.0 (rw (length_asks a.self.device a.self.call) p.1) (asking_more a.self.device a.self.call a.left (omega arith)) c.give-n.ensures (rw c.at.ensures (c.after_request.ensures a.self.head))
+    λ m. owed_leaf (after_request a.self.device a.self.call) (request_bytes a.self.device a.self.call) m (λ _. refl) c.request_bytes-bytes.ensures p.0 (rw (length_asks a.self.device a.self.call) p.1) (asking_more a.self.device a.self.call a.left (omega arith)) c.give-n.ensures (rw c.from_parts.ensures (c.after_request.ensures a.self.head))
