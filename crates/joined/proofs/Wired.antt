@@ -22,8 +22,7 @@ use Rattle.client.specs.declared.Stepped as driven
 use Rattle.client.proofs.Result.{within as driven_within, same_result as same_driven}
 use Rattle.joined.specs.Code.{client_step, server_step}
 use Rattle.joined.specs.Wired.{taken_off, put_on, ClientMoves, ServerMoves}
-use Rattle.joined.specs.declared.ClientMoved.{ClientMoved}
-use Rattle.joined.specs.declared.ServerMoved.{ServerMoved}
+use Rattle.joined.specs.declared.Moved.{Moved}
 
 -- ---- one wire
 clip_take : (n : ℕ) (w : List ℕ) → take (min n (length w)) w ≡ take n w
@@ -125,20 +124,20 @@ module _ {s : Server} {table img up : List ℕ} {ups : ℕ} {down : List ℕ} {d
       }
 
 -- ---- two results of one move
-pub same_client_move : {c : Client} {m up : List ℕ} {ups : ℕ} {down : List ℕ} {downs piece room : ℕ} {r q : ClientMoved} {m' m'' up' up'' down' down'' : List ℕ}
+pub same_client_move : {c : Client} {m up : List ℕ} {ups : ℕ} {down : List ℕ} {downs piece room : ℕ} {r q : Moved driven.Stepped} {m' m'' up' up'' down' down'' : List ℕ}
     → ClientMoves c m up ups down downs piece room r m' up' down' → ClientMoves c m up ups down downs piece room q m'' up'' down''
     → (r ≡ q) × (m' ≡ m'') × (up' ≡ up'') × (down' ≡ down'')
 same_client_move {r = r} {q = q} x y =
     let s = same_driven x.drives y.drives in
-    let whole : ◌≡◌ {A = ClientMoved} (record { step = r.step; ups = r.ups; downs = r.downs }) (record { step = q.step; ups = q.ups; downs = q.downs }) =
+    let whole : ◌≡◌ {A = Moved driven.Stepped} (record { step = r.step; ups = r.ups; downs = r.downs }) (record { step = q.step; ups = q.ups; downs = q.downs }) =
     rw (x.up_count, x.down_count, s.0, ← y.up_count, ← y.down_count) in
     (whole, s.1, rw (x.up_bytes, s.2, ← y.up_bytes), rw (x.down_bytes, s.0, ← y.down_bytes))
 
-pub same_server_move : {s : Server} {t img up : List ℕ} {ups : ℕ} {down : List ℕ} {downs piece room : ℕ} {r q : ServerMoved} {img' img'' up' up'' down' down'' : List ℕ}
+pub same_server_move : {s : Server} {t img up : List ℕ} {ups : ℕ} {down : List ℕ} {downs piece room : ℕ} {r q : Moved served.Stepped} {img' img'' up' up'' down' down'' : List ℕ}
     → ServerMoves s t img up ups down downs piece room r img' up' down' → ServerMoves s t img up ups down downs piece room q img'' up'' down''
     → (r ≡ q) × (img' ≡ img'') × (up' ≡ up'') × (down' ≡ down'')
 same_server_move {r = r} {q = q} x y =
     let s = same_served x.serves y.serves in
-    let whole : ◌≡◌ {A = ServerMoved} (record { step = r.step; ups = r.ups; downs = r.downs }) (record { step = q.step; ups = q.ups; downs = q.downs }) =
+    let whole : ◌≡◌ {A = Moved served.Stepped} (record { step = r.step; ups = r.ups; downs = r.downs }) (record { step = q.step; ups = q.ups; downs = q.downs }) =
     rw (x.up_count, x.down_count, s.0, ← y.up_count, ← y.down_count) in
     (whole, s.1, rw (x.up_bytes, s.0, ← y.up_bytes), rw (x.down_bytes, s.2, ← y.down_bytes))

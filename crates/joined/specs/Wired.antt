@@ -8,13 +8,14 @@ use Rattle.std.specs.Prelude.{ℕ, min, ◌+◌, ◌-◌, ◌≡◌, List, ◌++
 use Rattle.machine.specs.Traffic.{client_bytes, server_bytes}
 use Rattle.server.specs.Contract.{Serves}
 use Rattle.server.specs.declared.state.Server.{Server}
+use Rattle.server.specs.declared.Stepped as served
 use Rattle.client.specs.Contract.{Drives}
 use Rattle.client.specs.declared.state.Client.{Client}
+use Rattle.client.specs.declared.Stepped as driven
 use Rattle.wire.specs.Results.{Result}
 use Rattle.joined.specs.Disk.{Call}
 use Rattle.joined.specs.Code.{joint, collected, Move}
-use Rattle.joined.specs.declared.ClientMoved.{ClientMoved}
-use Rattle.joined.specs.declared.ServerMoved.{ServerMoved}
+use Rattle.joined.specs.declared.Moved.{Moved}
 
 abbrev pub taken_off : List ℕ → ℕ → ℕ → List ℕ
 taken_off wire count n = drop n (take count wire) ++ drop (min count (length wire) - n) wire
@@ -22,7 +23,7 @@ taken_off wire count n = drop n (take count wire) ++ drop (min count (length wir
 abbrev pub put_on : List ℕ → ℕ → ℕ → List ℕ → List ℕ
 put_on wire count room bytes = take count wire ++ bytes ++ drop (count + room) wire
 
-module _ (c : Client) (m up : List ℕ) (ups : ℕ) (down : List ℕ) (downs piece room : ℕ) (r : ClientMoved) (m' up' down' : List ℕ) where
+module _ (c : Client) (m up : List ℕ) (ups : ℕ) (down : List ℕ) (downs piece room : ℕ) (r : Moved driven.Stepped) (m' up' down' : List ℕ) where
   pub record ClientMoves : Type 0 where
     pub given : List ℕ
     pub drives : Drives c m (take piece (take downs down)) (take room (drop ups up)) r.step m' given
@@ -35,7 +36,7 @@ module _ (c : Client) (m up : List ℕ) (ups : ℕ) (down : List ℕ) (downs pie
         → Move t (length up) (length down) (client_bytes (take r.step.taken (take downs down)) (take r.step.given given)) (joint c m ks rs s img (take ups up) (take downs down))
         (joint r.step.state m' ks (collected r.step.outcome m' rs) s img (take r.ups up') (take r.downs down'))
 
-module _ (s : Server) (t img up : List ℕ) (ups : ℕ) (down : List ℕ) (downs piece room : ℕ) (r : ServerMoved) (img' up' down' : List ℕ) where
+module _ (s : Server) (t img up : List ℕ) (ups : ℕ) (down : List ℕ) (downs piece room : ℕ) (r : Moved served.Stepped) (img' up' down' : List ℕ) where
   pub record ServerMoves : Type 0 where
     pub given : List ℕ
     pub serves : Serves s t img (take piece (take ups up)) (take room (drop downs down)) r.step img' given

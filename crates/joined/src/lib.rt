@@ -6,7 +6,6 @@ pub mod wires;
 ghost use Rattle.joined.specs.Wired.{ClientMoves, ServerMoves};
 
 use client::state::Client;
-use machine::copy;
 use server::state::Server;
 
 // How many bytes stand on the wires, and how much of them a move may use: up to `piece` bytes in, up to `room` bytes out.
@@ -18,21 +17,15 @@ pub struct Offer {
     pub room: usize,
 }
 
-// What the client's move did, and how many bytes stand on the wires after it.
+// What an end's step did, and how many bytes stand on the wires after it.
 #[derive(Clone, Copy)]
-pub struct ClientMoved {
-    pub step: client::Stepped,
+pub struct Moved<S> {
+    pub step: S,
     pub ups: usize,
     pub downs: usize,
 }
 
-// What the server's move did, and how many bytes stand on the wires after it.
-#[derive(Clone, Copy)]
-pub struct ServerMoved {
-    pub step: server::Stepped,
-    pub ups: usize,
-    pub downs: usize,
-}
+// The two moves stay two functions: what each lends beside the wires and what it promises are its own end's.
 
 // Steps the client on a piece of the wire down, with some of the space on the wire up.
 pub fn client_move(
@@ -41,19 +34,19 @@ pub fn client_move(
     lent: &mut [u8],
     up: &mut [u8],
     down: &mut [u8],
-) -> ClientMoved
+) -> Moved<client::Stepped>
     ensures { ClientMoves c lent.old up.old o.ups down.old o.downs o.piece o.room
         result lent.new up.new down.new }
 {
-    let there = copy::least(o.downs, down.len());
-    let n = copy::least(o.piece, there);
-    let from = copy::least(o.ups, up.len());
-    let to = from + copy::least(o.room, up.len() - from);
+    let there = o.downs.min(down.len());
+    let n = o.piece.min(there);
+    let from = o.ups.min(up.len());
+    let to = from + o.room.min(up.len() - from);
     let step = c.step(&down[..n], &mut up[from..to], lent);
     wires::take_off(down, there, step.taken);
     let ups = from + step.given;
     let downs = there - step.taken;
-    ClientMoved { step, ups, downs }
+    Moved { step, ups, downs }
 }
 
 // Steps the server on a piece of the wire up, with some of the space on the wire down.
@@ -64,17 +57,17 @@ pub fn server_move(
     image: &mut [u8],
     up: &mut [u8],
     down: &mut [u8],
-) -> ServerMoved
+) -> Moved<server::Stepped>
     ensures { ServerMoves s table.now image.old up.old o.ups down.old o.downs o.piece o.room
         result image.new up.new down.new }
 {
-    let there = copy::least(o.ups, up.len());
-    let n = copy::least(o.piece, there);
-    let from = copy::least(o.downs, down.len());
-    let to = from + copy::least(o.room, down.len() - from);
+    let there = o.ups.min(up.len());
+    let n = o.piece.min(there);
+    let from = o.downs.min(down.len());
+    let to = from + o.room.min(down.len() - from);
     let step = s.step(&up[..n], &mut down[from..to], table, image);
     wires::take_off(up, there, step.taken);
     let ups = there - step.taken;
     let downs = from + step.given;
-    ServerMoved { step, ups, downs }
+    Moved { step, ups, downs }
 }

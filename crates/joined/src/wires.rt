@@ -7,11 +7,5 @@ pub fn take_off(wire: &mut [u8], count: usize, n: usize)
     requires { (n ≤ count) × (count ≤ length wire.old) }
     ensures { wire.new ≡ taken_off wire.old count n }
 {
-    let left = count - n;
-    let mut i = 0;
-    while i < left {
-        let from = i + n;
-        wire[i] = wire[from];
-        i += 1;
-    }
+    wire.copy_within(n..count, 0);
 }

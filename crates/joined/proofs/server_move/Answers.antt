@@ -9,25 +9,25 @@ use Rattle.joined.proofs.Wired.{server_moved}
 use Rattle.joined.proofs.server_move.Goals as goal
 
 pub slice_bounds-step-end-2 : goal.slice_bounds-step-end-2
-slice_bounds-step-end-2 c = sym (length-take-le c.least-n.result c.args.up.now (omega (arith, c.least-n.ensures, c.least-there.ensures)))
+slice_bounds-step-end-2 c = sym (length-take-le c.min-n.result c.args.up.now (omega (arith, c.min-n.ensures, c.min-there.ensures)))
 
 pub take_off-requires : goal.take_off-requires
 take_off-requires c =
     let w = within c.step-step.ensures in
-    let l = length-take c.least-n.result c.args.up.now in
-    (omega (arith, w.0, l, c.least-n.ensures), omega (arith, c.least-there.ensures))
+    let l = length-take c.min-n.result c.args.up.now in
+    (omega (arith, w.0, l, c.min-n.ensures), omega (arith, c.min-there.ensures))
 
 pub overflow_sub-ups : goal.overflow_sub-ups
 overflow_sub-ups c =
     let w = within c.step-step.ensures in
-    let l = length-take c.least-n.result c.args.up.now in
-    omega (arith, w.0, l, c.least-n.ensures)
+    let l = length-take c.min-n.result c.args.up.now in
+    omega (arith, w.0, l, c.min-n.ensures)
 
 pub overflow_add-downs : goal.overflow_add-downs
 overflow_add-downs c =
     let down = c.args.down.now in
-    let from = c.least-from.result in
-    let more = c.least.result in
+    let from = c.min-from.result in
+    let more = c.min.result in
     let w : c.step-step.result.given ≤ length (take (from + more - from) (drop from down)) = (within c.step-step.ensures).1 in
     let k : from + c.step-step.result.given ≤ from + more = omega (arith, w, length-take (from + more - from) (drop from down)) in
     let f : from + more < 2 ^ 64 = omega arith in
@@ -36,5 +36,5 @@ overflow_add-downs c =
 pub returns : goal.returns
 returns c =
     let a = c.args in
-    let m = server_moved {down = a.down.now} {room = a.o.room} c.least-from.ensures (rw c.least.ensures) c.least-there.ensures c.least-n.ensures c.step-step.ensures in
+    let m = server_moved {down = a.down.now} {room = a.o.room} c.min-from.ensures (rw c.min.ensures) c.min-there.ensures c.min-n.ensures c.step-step.ensures in
     rw c.take_off.ensures m
