@@ -1,152 +1,157 @@
 // The two ends and the wires between them.
-use crate::schedule;
-use crate::schedule::Schedule;
+use crate::print;
+use crate::schedule::{Choice, Order, Schedule};
+use crate::script::{Call, LONGEST};
 use client::state::{Client, Outcome};
 use joined::Offer;
 use server::state::Server;
-use std::num::wrapping_add_u64;
 
-// The wires' own bytes are lent. What each end took and gave is counted.
-#[derive(Clone, Copy)]
-pub struct Ends {
-    pub client: Client,
-    pub server: Server,
-    pub schedule: Schedule,
-    pub ups: usize,
-    pub downs: usize,
-    pub client_gave: u64,
-    pub server_took: u64,
-    pub server_gave: u64,
-    pub client_took: u64,
+// A wire of so many bytes, how many of them stand on it, and how many were put on it and taken off it.
+#[derive(Drop)]
+struct Wire<const N: usize> {
+    bytes: [u8; N],
+    count: usize,
+    gave: u64,
+    took: u64,
 }
 
-// Where the ends stand after a move or a call, and how the client's call stands.
-#[derive(Clone, Copy)]
-pub struct After {
-    pub ends: Ends,
-    pub outcome: Outcome,
+#[derive(Drop)]
+pub struct Ends<const N: usize> {
+    client: Client,
+    server: Server,
+    schedule: Schedule,
+    image: [u8; 64],
+    up: Wire<N>,
+    down: Wire<N>,
 }
 
-pub fn fresh(kind: u8) -> Ends {
-    let client = Client::new();
-    let server = Server::new();
-    Ends {
-        client,
-        server,
-        schedule: Schedule { kind, at: 1 },
-        ups: 0,
-        downs: 0,
-        client_gave: 0,
-        server_took: 0,
-        server_gave: 0,
-        client_took: 0,
-    }
-}
-
-impl Ends {
-    // The client as a call left it.
-    pub fn with_client(self, client: Client) -> Ends {
-        let server = self.server;
-        let schedule = self.schedule;
-        Ends {
-            client,
-            server,
-            schedule,
-            ups: self.ups,
-            downs: self.downs,
-            client_gave: self.client_gave,
-            server_took: self.server_took,
-            server_gave: self.server_gave,
-            client_took: self.client_took,
+impl<const N: usize> Wire<N> {
+    fn new() -> Wire<N> {
+        Wire {
+            bytes: [0u8; N],
+            count: 0,
+            gave: 0,
+            took: 0,
         }
     }
 
-    fn client_moves(self, o: Offer, lent: &mut [u8], up: &mut [u8], down: &mut [u8]) -> After {
-        let c = self.client;
-        let r = joined::client_move(c, o, lent, up, down);
-        let step = r.step;
-        let client = step.state;
-        let outcome = step.outcome;
-        let server = self.server;
-        let ends = Ends {
-            client,
-            server,
-            schedule: schedule::later(self.schedule),
-            ups: r.ups,
-            downs: r.downs,
-            client_gave: wrapping_add_u64(self.client_gave, step.given as u64),
-            server_took: self.server_took,
-            server_gave: self.server_gave,
-            client_took: wrapping_add_u64(self.client_took, step.taken as u64),
-        };
-        After { ends, outcome }
+    fn put(&mut self, given: usize, count: usize) {
+        self.gave = self.gave.wrapping_add(given as u64);
+        self.count = count;
     }
 
-    fn server_moves(self, o: Offer, image: &mut [u8], up: &mut [u8], down: &mut [u8]) -> After {
+    fn take(&mut self, taken: usize, count: usize) {
+        self.took = self.took.wrapping_add(taken as u64);
+        self.count = count;
+    }
+}
+
+// Adler-32
+fn checksum(bytes: &[u8]) -> u64 {
+    let mut a = 1u64;
+    let mut b = 0u64;
+    for &byte in bytes {
+        a = (a + u64::from(byte)) % 65521;
+        b = (b + a) % 65521;
+    }
+    b * 65536 + a
+}
+
+impl<const N: usize> Ends<N> {
+    pub fn new(order: Order) -> Ends<N> {
+        Ends {
+            client: Client::new(),
+            server: Server::new(),
+            schedule: Schedule::new(order),
+            image: *b"<before>ASPIRIN HEPARIN INSULIN DIGOXIN <24 bytes stand behind.>",
+            up: Wire::new(),
+            down: Wire::new(),
+        }
+    }
+
+    fn offer(&self, c: Choice) -> Offer {
+        Offer {
+            ups: self.up.count,
+            downs: self.down.count,
+            piece: c.piece,
+            room: c.room,
+        }
+    }
+
+    fn client_moves(&mut self, o: Offer, lent: &mut [u8]) -> Outcome {
+        let Ends {
+            client,
+            up,
+            down,
+            ..
+        } = self;
+        let r = joined::client_move(*client, o, lent, &mut up.bytes, &mut down.bytes);
+        *client = r.step.state;
+        up.put(r.step.given, r.ups);
+        down.take(r.step.taken, r.downs);
+        r.step.outcome
+    }
+
+    fn server_moves(&mut self, o: Offer) {
         // version 1; start 8, size 32, flags 0, `labels`
         let table =
             b"\x01\x00\x17\x00\x00\x00\x00\x00\x00\x00\x08\x00\x00\x00\x00\x00\x00\x00\x20\x00labels";
-        let s = self.server;
-        let r = joined::server_move(s, o, table, image, up, down);
-        let step = r.step;
-        let server = step.state;
-        let client = self.client;
-        let ends = Ends {
-            client,
+        let Ends {
             server,
-            schedule: schedule::later(self.schedule),
-            ups: r.ups,
-            downs: r.downs,
-            client_gave: self.client_gave,
-            server_took: wrapping_add_u64(self.server_took, step.taken as u64),
-            server_gave: wrapping_add_u64(self.server_gave, step.given as u64),
-            client_took: self.client_took,
-        };
-        After {
-            ends,
-            outcome: Outcome::Open,
-        }
+            image,
+            up,
+            down,
+            ..
+        } = self;
+        let r = joined::server_move(*server, o, table, image, &mut up.bytes, &mut down.bytes);
+        *server = r.step.state;
+        up.take(r.step.taken, r.ups);
+        down.put(r.step.given, r.downs);
     }
 
-    // One move, as the schedule says.
-    fn moves(self, lent: &mut [u8], image: &mut [u8], up: &mut [u8], down: &mut [u8]) -> After {
-        let c = schedule::chosen(self.schedule);
-        let o = Offer {
-            ups: self.ups,
-            downs: self.downs,
-            piece: c.piece,
-            room: c.room,
-        };
+    // One move, as the schedule says, and how the client's call stands then.
+    fn moves(&mut self, lent: &mut [u8]) -> Outcome {
+        let c = self.schedule.choose();
+        let o = self.offer(c);
         if c.client {
-            self.client_moves(o, lent, up, down)
+            self.client_moves(o, lent)
         } else {
-            self.server_moves(o, image, up, down)
+            self.server_moves(o);
+            Outcome::Open
         }
     }
-}
 
-fn is_open(o: Outcome) -> bool {
-    match o {
-        Outcome::Open => true,
-        Outcome::Succeeded(_) => false,
-        Outcome::Failed(_) => false,
-        Outcome::Ended(_) => false,
-        Outcome::Refused(_) => false,
-    }
-}
-
-// Moves until the call is closed, at most 100,000 times.
-pub fn close(a: After, lent: &mut [u8], image: &mut [u8], up: &mut [u8], down: &mut [u8]) -> After {
-    let mut now = a;
-    let mut left = 100000u32;
-    while left > 0 {
-        let o = now.outcome;
-        if !is_open(o) {
-            break;
+    // Makes the call with what is lent, moves until it is closed, at most 100,000 times, and says how it went.
+    fn closes(&mut self, k: Call, lent: &mut [u8]) -> Outcome {
+        let r = k.make(self.client, lent);
+        self.client = r.state;
+        let mut outcome = r.outcome;
+        for _ in 0..100000 {
+            if !matches!(outcome, Outcome::Open) {
+                break;
+            }
+            outcome = self.moves(lent);
         }
-        let e = now.ends;
-        now = e.moves(lent, image, up, down);
-        left -= 1;
+        outcome
     }
-    now
+
+    // A call, and its line.
+    pub fn call(&mut self, k: Call) {
+        let mut buffer = [0u8; LONGEST];
+        k.fill(&mut buffer);
+        let lent = &mut buffer[..k.lends()];
+        let outcome = self.closes(k, lent);
+        print::call(k, outcome, lent);
+    }
+
+    // The image after a run, and the bytes carried.
+    pub fn show(&self) {
+        print::tell("image [");
+        print::bytes(&self.image);
+        print::tell(format_args!("] {}\n", checksum(&self.image)));
+        let Wire { gave, took, .. } = self.up;
+        print::tell(format_args!("up {gave} {took} "));
+        let Wire { gave, took, .. } = self.down;
+        print::tell(format_args!("down {gave} {took}\n"));
+    }
 }
