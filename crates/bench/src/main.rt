@@ -3,9 +3,6 @@
 // It writes how many bytes moved. It has no clock: bench/run.py times it.
 #![tactic(auto)]
 
-ghost use Rattle.std.specs.Prelude.{◌≡◌, ◌+◌, ◌*◌, length};
-
-use machine::copy;
 use server::state::Server;
 use wire::fields;
 
@@ -31,120 +28,99 @@ struct Run {
     moved: u64,
 }
 
-// A step, counted.
-fn step(r: Run, table: &[u8], image: &mut [u8], input: &[u8], room: &mut [u8]) -> Run {
-    let s = r.server;
-    let a = s.step(input, room, table, image);
-    let server = a.state;
-    let taken = std::num::wrapping_add_u64(r.moved, a.taken as u64);
-    Run {
-        server,
-        moved: std::num::wrapping_add_u64(taken, a.given as u64),
+impl Run {
+    // A step, counted.
+    fn step(&mut self, table: &[u8], image: &mut [u8], input: &[u8], room: &mut [u8]) {
+        let a = self.server.step(input, room, table, image);
+        self.server = a.state;
+        self.moved = self
+            .moved
+            .wrapping_add(a.taken as u64)
+            .wrapping_add(a.given as u64);
     }
-}
 
-// The handshake: one export, the whole image.
-fn open(image: &mut [u8], room: &mut [u8]) -> Run {
-    let table =
-        b"\x01\x00\x12\x00\x00\x00\x00\x00\x00\x00\x00\x00\x00\x00\x00\x00\x70\x00\x00\x00a";
-    let client = b"\x00\x00\x00\x03IHAVEOPT\x00\x00\x00\x01\x00\x00\x00\x01a";
-    let server = Server::new();
-    let r = step(Run { server, moved: 0 }, table, image, client, room);
-    let opened = r.server;
-    Run {
-        server: opened,
-        moved: 0,
+    // The handshake: one export, the whole image. It does not count.
+    fn open(image: &mut [u8], room: &mut [u8]) -> Run {
+        let table =
+            b"\x01\x00\x12\x00\x00\x00\x00\x00\x00\x00\x00\x00\x00\x00\x00\x00\x70\x00\x00\x00a";
+        let client = b"\x00\x00\x00\x03IHAVEOPT\x00\x00\x00\x01\x00\x00\x00\x01a";
+        let mut run = Run {
+            server: Server::new(),
+            moved: 0,
+        };
+        run.step(table, image, client, room);
+        Run { moved: 0, ..run }
+    }
+
+    // A WRITE of the input's payload at this offset, and a READ of as much.
+    fn write_and_read(
+        &mut self,
+        offset: usize,
+        image: &mut [u8],
+        input: &mut [u8; INPUT],
+        room: &mut [u8],
+    ) {
+        aim(input, 1, offset);
+        self.step(b"", image, input, room);
+        aim(input, 0, offset);
+        self.step(b"", image, &input[..28], room);
+    }
+
+    fn requests(&mut self, image: &mut [u8], input: &mut [u8; INPUT], room: &mut [u8]) {
+        for k in 0..PIECES {
+            self.write_and_read(k * PIECE, image, input, room);
+        }
     }
 }
 
 // The request's type and offset.
-fn aim(input: &mut [u8], kind: u16, offset: usize)
-    requires { length input.old ≡ 65564 }
-{
+fn aim(input: &mut [u8; INPUT], kind: u16, offset: usize) {
     fields::write(input, 6, kind);
     fields::write(input, 16, offset as u64);
 }
 
-// A WRITE of the input's payload at this offset, and a READ of as much.
-fn write_and_read(r: Run, offset: usize, image: &mut [u8], input: &mut [u8], room: &mut [u8]) -> Run
-    requires { length input.old ≡ 65564 }
-{
-    aim(input, 1, offset);
-    let w = step(r, b"", image, input, room);
-    aim(input, 0, offset);
-    step(w, b"", image, &input[0..28], room)
-}
-
-fn requests(r: Run, image: &mut [u8], input: &mut [u8], room: &mut [u8]) -> Run
-    requires { length input.old ≡ 65564 }
-{
-    let mut run = r;
-    let mut k = 0;
-    while k < PIECES {
-        run = write_and_read(run, k * PIECE, image, input, room);
-        k += 1;
-    }
-    run
-}
-
 // The same bytes to and from the same places.
-fn copies(image: &mut [u8], input: &[u8], room: &mut [u8])
-    requires { (length image.old ≡ 7340032) × (length input.now ≡ 65564) × (length room.old ≡ 65552) }
-{
-    let mut k = 0;
-    while k < PIECES {
-        copy::copy_part(input, 28, image, k * PIECE, PIECE);
-        copy::copy_part(image, k * PIECE, room, 16, PIECE);
-        k += 1;
+fn copies(image: &mut [u8; IMAGE], input: &[u8; INPUT], room: &mut [u8; ROOM]) {
+    for piece in image.chunks_exact_mut(PIECE) {
+        piece.copy_from_slice(&input[28..]);
+        room[16..].copy_from_slice(piece);
     }
 }
 
 // The request's fixed fields: magic and length.
-fn prepare(input: &mut [u8])
-    requires { length input.old ≡ 65564 }
-{
+fn prepare(input: &mut [u8; INPUT]) {
     fields::write(input, 0, 0x25609513u32);
     fields::write(input, 24, 65536u32);
 }
 
-// Standard input is at its end, so nothing is read; but a compiler cannot know that, and leaves no round out.
-fn round(requested: bool, run: Run, image: &mut [u8], input: &mut [u8], room: &mut [u8]) -> Run
-    requires { (length image.old ≡ 7340032) × (length input.old ≡ 65564) × (length room.old ≡ 65552) }
-{
-    io::read_full(STDIN, image);
-    io::read_full(STDIN, input);
-    io::read_full(STDIN, room);
-    if requested {
-        return requests(run, image, input, room);
-    }
-    copies(image, input, room);
-    run
-}
-
-// So many rounds of requests, or of copies.
-fn rounds(requested: bool, n: u32, image: &mut [u8], input: &mut [u8], room: &mut [u8]) -> u64
-    requires { (length image.old ≡ 7340032) × (length input.old ≡ 65564) × (length room.old ≡ 65552) }
-{
-    let mut run = open(image, room);
-    let mut left = n;
-    while left > 0 {
-        run = round(requested, run, image, input, room);
-        left -= 1;
+// So many rounds of requests, or of copies. Standard input is at its end, so nothing is read there; but a compiler cannot know that, and leaves no
+// round out.
+fn rounds(
+    requested: bool,
+    n: u32,
+    image: &mut [u8; IMAGE],
+    input: &mut [u8; INPUT],
+    room: &mut [u8; ROOM],
+) -> u64 {
+    let mut run = Run::open(image, room);
+    for _ in 0..n {
+        io::read_full(STDIN, image);
+        io::read_full(STDIN, input);
+        io::read_full(STDIN, room);
+        if requested {
+            run.requests(image, input, room);
+        } else {
+            copies(image, input, room);
+        }
     }
     run.moved
 }
 
-fn wide(x: u8) -> u64 {
-    x as u64
-}
-
 // Shows the last byte of the room, so that what was moved is used.
-fn show(moved: u64, room: &[u8])
-    requires { length room.now ≡ 65552 }
-{
+fn show(moved: u64, room: &[u8; ROOM]) {
     io::print_decimal(STDOUT, moved);
     io::write_all(STDOUT, b" ");
-    io::print_decimal(STDOUT, wide(room[65551]));
+    io::print_decimal(STDOUT, u64::from(room[ROOM - 1]));
     io::write_all(STDOUT, b"\n");
 }
 
