@@ -14,7 +14,7 @@ use machine::ends::{Gave, Took};
 use machine::parts;
 use wire::{consts, fields};
 
-// ---- the phases that follow where nothing may be left
+// ---- the phases that follow where nothing may be left. Each is one test: a closure for what follows would say no less.
 
 fn greeted(left: usize) -> Phase
     ensures { (h : List ℕ) → view_of h result ≡ greeted left }

@@ -30,7 +30,7 @@ use wire::table::Export;
 use wire::utf8::Utf8;
 use wire::{consts, fields, lookup, table};
 
-// ---- the phases that follow where nothing may be left
+// ---- the phases that follow where nothing may be left. Each is one test: a closure for what follows would say no less.
 
 pub fn listing(zeroes: bool, left: usize) -> Phase
     ensures { (h : List ℕ) → view_of h result ≡ listing zeroes left }
@@ -246,6 +246,7 @@ pub fn option_reply(option: u32, typ: u32, len: u32) -> [u8; 134]
     bytes
 }
 
+// The server's name between two heads, each a part of a longer array: so parts are copied by their places.
 pub fn list_replies() -> [u8; 134]
     ensures { take 51 result ≡ list_replies }
 {

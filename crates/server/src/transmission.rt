@@ -80,7 +80,7 @@ impl Service {
         Server { phase, head }
     }
 
-    // ---- the phases that follow where nothing may be left
+    // ---- the phases that follow where nothing may be left. Each is one test: a closure for what follows would say no less.
 
     fn sending(self, part: Sending) -> Phase
         ensures { (h : List ℕ) → view_of h result ≡ sending self.export part.off part.left }
