@@ -1,6 +1,7 @@
 // Lines of text for programs: words between blanks, decimal numbers, names that may be quoted; `#` starts a comment.
 // Each function takes a line, or what is left of one, and gives what is at its front and what is behind that.
-ghost use Rattle.std.specs.Prelude.{◌≡◌, ◌+◌, ◌≤◌, length, IfOk};
+ghost use Rattle.std.specs.Prelude.{◌≡◌, ◌+◌, ◌≤◌, ◌++◌, length, IfSome, IfOk};
+ghost use Rattle.host.specs.Text.{Behind};
 
 use std::fmt;
 
@@ -34,7 +35,8 @@ fn is_blank(b: u8) -> bool {
 // The bytes in front of the first that is such a one, and the rest.
 fn cut<F: Fn(u8) -> bool>(line: &[u8], is_such: F) -> (&[u8], &[u8])
     requires { F.IsAlwaysCallable is_such }
-    ensures { length result.0.now + length result.1.now ≡ length line.now }
+    ensures parts { result.0.now ++ result.1.now ≡ line.now }
+    ensures lengths { length result.0.now + length result.1.now ≡ length line.now }
 {
     let n = line.iter().position(|b| is_such(*b)).unwrap_or(line.len());
     line.split_at(n)
@@ -42,7 +44,8 @@ fn cut<F: Fn(u8) -> bool>(line: &[u8], is_such: F) -> (&[u8], &[u8])
 
 // The line from the first byte on that is no blank.
 pub fn skip(line: &[u8]) -> &[u8]
-    ensures { length result.now ≤ length line.now }
+    ensures rest { Behind line.now result.now }
+    ensures length { length result.now ≤ length line.now }
 {
     let (_, rest) = cut(line, |b| !is_blank(b));
     rest
@@ -50,7 +53,8 @@ pub fn skip(line: &[u8]) -> &[u8]
 
 // The word at the front.
 pub fn word(line: &[u8]) -> (&[u8], &[u8])
-    ensures { length result.0.now + length result.1.now ≡ length line.now }
+    ensures parts { result.0.now ++ result.1.now ≡ line.now }
+    ensures lengths { length result.0.now + length result.1.now ≡ length line.now }
 {
     cut(line, |b| is_blank(b) || b == b'#')
 }
@@ -63,7 +67,9 @@ pub fn is_end(line: &[u8]) -> bool {
 // ---- numbers
 
 // A whole word of decimal digits, below 2^64.
-pub fn number(line: &[u8]) -> Option<(u64, &[u8])> {
+pub fn number(line: &[u8]) -> Option<(u64, &[u8])>
+    ensures { IfSome result (λ found. Behind line.now found.1.now) }
+{
     let (word, rest) = word(line);
     if word.is_empty() {
         return None;
@@ -86,7 +92,9 @@ fn hex_byte(high: u8, low: u8) -> Option<u8> {
 }
 
 // Behind a backslash: itself, a quote, or `x` and two hexadecimal digits.
-fn escaped(line: &[u8]) -> Result<(Option<u8>, &[u8]), Mistake> {
+fn escaped(line: &[u8]) -> Result<(Option<u8>, &[u8]), Mistake>
+    ensures { IfOk result (λ found. Behind line.now found.1.now) }
+{
     match line {
         [b @ (b'"' | b'\\'), rest @ ..] => Ok((Some(*b), rest)),
         [b'x', high, low, rest @ ..] => match hex_byte(*high, *low) {
@@ -98,7 +106,9 @@ fn escaped(line: &[u8]) -> Result<(Option<u8>, &[u8]), Mistake> {
 }
 
 // A byte of a quoted name, or none for the quote at its end.
-fn glyph(line: &[u8]) -> Result<(Option<u8>, &[u8]), Mistake> {
+fn glyph(line: &[u8]) -> Result<(Option<u8>, &[u8]), Mistake>
+    ensures { IfOk result (λ found. Behind line.now found.1.now) }
+{
     match line {
         [] => Err(Mistake::NoQuote),
         [b'"', rest @ ..] => Ok((None, rest)),
@@ -109,7 +119,8 @@ fn glyph(line: &[u8]) -> Result<(Option<u8>, &[u8]), Mistake> {
 
 // A quoted name, behind its first quote: how many bytes it has.
 fn quoted<'a>(line: &'a [u8], buffer: &mut [u8]) -> Result<(usize, &'a [u8]), Mistake>
-    ensures { IfOk result (λ found. found.0 ≤ length buffer.old) }
+    ensures fits { IfOk result (λ found. found.0 ≤ length buffer.old) }
+    ensures rest { IfOk result (λ found. Behind line.now found.1.now) }
 {
     let mut left = line;
     for (len, place) in buffer.iter_mut().enumerate() {
@@ -128,7 +139,8 @@ fn quoted<'a>(line: &'a [u8], buffer: &mut [u8]) -> Result<(usize, &'a [u8]), Mi
 
 // A name that is one word without quotes: how many bytes it has.
 fn plain<'a>(line: &'a [u8], buffer: &mut [u8]) -> Result<(usize, &'a [u8]), Mistake>
-    ensures { IfOk result (λ found. found.0 ≤ length buffer.old) }
+    ensures fits { IfOk result (λ found. found.0 ≤ length buffer.old) }
+    ensures rest { IfOk result (λ found. Behind line.now found.1.now) }
 {
     let (word, rest) = word(line);
     let len = word.len();
@@ -142,13 +154,22 @@ fn plain<'a>(line: &'a [u8], buffer: &mut [u8]) -> Result<(usize, &'a [u8]), Mis
     Ok((len, rest))
 }
 
+// A name, put at the front of the buffer: how many bytes it has.
+fn put<'a>(line: &'a [u8], buffer: &mut [u8]) -> Result<(usize, &'a [u8]), Mistake>
+    ensures fits { IfOk result (λ found. found.0 ≤ length buffer.old) }
+    ensures rest { IfOk result (λ found. Behind line.now found.1.now) }
+{
+    match line {
+        [b'"', behind @ ..] => quoted(behind, buffer),
+        _ => plain(line, buffer),
+    }
+}
+
 // A name, put at the front of the buffer.
 pub fn name<'a, 'b>(line: &'a [u8], buffer: &'b mut [u8]) -> Result<(&'b [u8], &'a [u8]), Mistake>
-    ensures { IfOk result (λ found. length found.0.now ≤ length buffer.old) }
+    ensures fits { IfOk result (λ found. length found.0.now ≤ length buffer.old) }
+    ensures rest { IfOk result (λ found. Behind line.now found.1.now) }
 {
-    let (len, rest) = match line {
-        [b'"', behind @ ..] => quoted(behind, buffer)?,
-        _ => plain(line, buffer)?,
-    };
+    let (len, rest) = put(line, buffer)?;
     Ok((&buffer[..len], rest))
 }
