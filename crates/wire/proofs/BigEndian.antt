@@ -12,7 +12,6 @@
 --   bytes_take, bytes_drop, bytes_append
 --   field_lt       a field of n bytes is below 256 ^ n
 --   field_fits     and one of at most 8 bytes fits 64 bits
---   field_more     a field that is one byte longer
 --   number_take    one byte more of a list
 --   same_bytes_refl, same_bytes_eq   the test `same_bytes` says whether the lists are equal
 --   same_pointwise   the library's test answers the same
@@ -129,11 +128,6 @@ field_lt l at n t =
 
 pub field_fits : (l : List ℕ) (at n : ℕ) → Bytes l → n ≤ 8 → field l at n < 2 ^ 64
 field_fits l at n t h = lt_of_lt_of_le (field_lt l at n t) (pow-le-pow_right (omega arith) h)
-
-pub field_more : (l : List ℕ) (at i : ℕ) → at + i < length l → field l at (i + 1) ≡ field l at i * 256 + get_or l (at + i) 0
-field_more l at i h =
-    let k : i < length (drop at l) = rw length-drop (omega arith) in
-    rw (add-one, take-suc (drop at l) i 0 k, number_snoc, get_or-drop)
 
 pub number_take : (l : List ℕ) (i : ℕ) → i < length l → number (take (i + 1) l) ≡ number (take i l) * 256 + get_or l i 0
 number_take l i h = rw (add-one, take-suc l i 0 h, number_snoc)

@@ -13,4 +13,3 @@ pub mod Iterations
 pub mod Sieves
 pub mod Found
 pub mod Answers
-pub mod Signed

@@ -85,6 +85,7 @@ pub fn narrowed(set: u32, table: &[u8], at: usize, part: &[u8]) -> u32
 }
 
 // The number of the lowest export of the set.
+#[tactic(auto, using(crate::proofs::Words::chosen_bits, crate::proofs::Words::chosen_none))]
 pub fn lowest(set: u32) -> Option<usize>
     ensures { result ≡ chosen (set_of set) }
 {

@@ -34,6 +34,7 @@ fn entry_of(body: &[u8]) -> Entry<'_>
 }
 
 // The record at the front of the bytes, and what is behind it; no record where there are no bytes.
+#[tactic(auto, using(crate::proofs::Fronts::front_none, crate::proofs::Fronts::front_broken, crate::proofs::Fronts::front_fits))]
 pub fn front(bytes: &[u8]) -> Result<Option<(Entry<'_>, &[u8])>, Broken>
     ensures { front_of result ≡ front bytes.now }
 {

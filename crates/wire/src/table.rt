@@ -128,6 +128,7 @@ fn by_digit(digit: u8, one: u16, zero: u16) -> u16
 }
 
 // The flags that the server sends for an export with these table flags.
+#[tactic(auto, unfolding(crate::specs::Table::wire_flags))]
 pub fn wire_flags(flags: u8) -> u16
     ensures { result ≡ wire_flags flags }
 {

@@ -22,6 +22,7 @@ pub enum Utf8 {
 }
 
 // After a byte that begins a character.
+#[tactic(auto, unfolding(crate::specs::Utf8::lead))]
 fn lead(b: u8) -> Utf8
     ensures { result ≡ lead b }
 {
@@ -58,6 +59,7 @@ impl Utf8 {
     }
 
     // After one byte more.
+    #[tactic(auto, unfolding(crate::specs::Utf8::next))]
     pub fn next(self, b: u8) -> Utf8
         ensures { result ≡ next self b }
     {
