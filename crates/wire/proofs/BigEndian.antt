@@ -24,8 +24,8 @@ use native.Mathlib.Nat.{pow-zero, pow-suc, pow-succ', one-le-pow, mul_assoc, add
 use native.Mathlib.Numerals.{add-one}
 use lib.Arith.{digits_lt, digits_div, mod-mul}
 use lib.Pow.{pow-add}
-use lib.ListN.{length, take, drop, get_or, length-append, length-take, length-drop}
-use lib.Seq.{take-suc, get_or-drop}
+use lib.ListN.{length, take, drop, get_or, length-append, length-take}
+use lib.Seq.{take-suc}
 use lib.Dec.{eqb}
 use lib.Pointwise.{pointwise}
 use mathlib.Core.Bool.{◌&&◌}

@@ -107,6 +107,7 @@ pub fn check(table: &[u8], image: usize) -> Result<(), Fault>
 }
 
 // Window and flags of record k, all 0 where there is none.
+#[tactic(auto, using(crate::proofs::Iterations::passed_all))]
 pub fn export_at(table: &[u8], k: usize) -> Export
     ensures { result ≡ export_of (get_or (records table.now) k no_record) }
 {
