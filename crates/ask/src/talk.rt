@@ -11,6 +11,7 @@ const STDOUT: i32 = 1;
 const PIECE: usize = 262144;
 
 // The client, how its last call stands, room for what it gives, and an input buffer. The bytes from `at` to `have` are not taken yet.
+// A `Vec` in place of an array could fail for want of memory.
 #[derive(Drop)]
 pub struct Talk {
     pub client: Client,

@@ -2,6 +2,7 @@
 use client::state::{Fields, Outcome, Value};
 use std::fmt::{Display, Formatter, Result, Write};
 
+// The client's outcomes have 01's numbers.
 fn end(n: u8) -> &'static str {
     match n {
         40 => "the server's first magic is not NBDMAGIC",

@@ -55,6 +55,7 @@ pub fn fill(file: &mut impl Read, buf: &mut [u8]) -> Result<usize>
     ensures { ReadsAtMost result buf.new }
 {
     let mut done = 0;
+    // a turn goes as far as one read does
     while done < buf.len() {
         let n = file.read(&mut buf[done..])?;
         if n == 0 {
@@ -70,6 +71,7 @@ pub fn write(file: &File, bytes: &[u8], place: usize) -> Result<()>
     requires { place + length bytes.now ≤ 9223372036854775807 }
 {
     let mut done = 0;
+    // a turn goes as far as one write does
     while done < bytes.len() {
         let n = file.write_at(&bytes[done..], (place + done) as u64)?;
         if n == 0 {

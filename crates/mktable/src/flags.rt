@@ -21,6 +21,7 @@ fn flag(word: &[u8]) -> Option<u8>
 pub fn in_words(line: &[u8]) -> Result<u8, Mistake> {
     let mut flags = 0;
     let mut rest = text::skip(line);
+    // a turn goes as far as one word does
     while !text::is_end(rest) {
         let (word, behind) = text::word(rest);
         flags |= flag(word).ok_or(Mistake::Word)?;

@@ -96,7 +96,7 @@ fn write_table(table: &[u8], image: usize)
     }
 }
 
-// A table that is being made for an image of so many bytes: the first bytes of the buffer.
+// A table that is being made for an image of so many bytes: the first bytes of the buffer. A `Vec` could fail for want of memory.
 #[derive(Drop)]
 struct Draft<'a> {
     buffer: &'a mut [u8],
