@@ -80,7 +80,6 @@ impl<'a> Iterator for Records<'a> {
 
     ghost remaining = { item_count due };
 
-    #[tactic(auto, using(crate::proofs::Walks::records_out, crate::proofs::Walks::records_turn, crate::proofs::Walks::records_end, crate::proofs::Iterations::some_front, crate::proofs::Iterations::none_front))]
     fn next(&mut self) -> Option<Entry<'a>> {
         if self.left == 0 {
             return None;
