@@ -77,10 +77,10 @@ fn show_device(d: Device) {
 }
 
 fn show(s: Client) {
-    lines::text(b"client");
+    lines::text("client");
     match s.info() {
         Some(d) => show_device(d),
-        None => lines::text(b" -"),
+        None => lines::text(" -"),
     }
     answer::close(false);
 }

@@ -3,9 +3,9 @@
 ghost use Rattle.std.specs.Prelude.{◌≡◌, ◌==◌, ◌≤◌, length};
 ghost use Rattle.lines.specs.Marks.{unchanged};
 
+use crate::answer;
 use crate::answer::Answer;
-use crate::places::{Lent, Part, Size, Sizes, Step};
-use crate::{answer, places};
+use crate::places::{Lent, Part, SECOND, Size, Sizes, Step, THIRD};
 
 pub const STILL: usize = 786432;
 
@@ -62,15 +62,13 @@ impl Buffers {
     // Copies what is lent, and fills the room: before a step.
     pub fn prepare(&mut self, p: Part, n: Size) {
         let Buffers { still, lent, .. } = self;
-        let copy = places::third();
-        still[copy..copy + p.size.bytes].copy_from_slice(&lent[p.at..p.at + p.size.bytes]);
+        still[THIRD..THIRD + p.size.bytes].copy_from_slice(&lent[p.at..p.at + p.size.bytes]);
         self.clean(n);
     }
 
     // Whether what is lent is as it was.
     fn as_copied(&self, p: Part) -> bool {
-        let copy = places::third();
-        self.lent(p) == &self.still[copy..copy + p.size.bytes]
+        self.lent(p) == &self.still[THIRD..THIRD + p.size.bytes]
     }
 
     // The line of a call that was lent the first n bytes of the room. `kept`: what else had to stay as it was did.
@@ -112,11 +110,10 @@ fn stepped<E: Driven>(
     ensures { result.given ≤ k.room.bytes }
 {
     let p = sizes.part(end.lent());
-    let table = places::second();
     end.step(
         &still[4..k.end.bytes],
         &mut room[..k.room.bytes],
-        &still[table..table + sizes.table.bytes],
+        &still[SECOND..SECOND + sizes.table.bytes],
         &mut lent[p.at..p.at + p.size.bytes],
     )
 }

@@ -14,13 +14,13 @@ ghost use Rattle.lines.specs.Hex.{hex_of};
 // Standard output.
 const STDOUT: i32 = 1;
 
-pub fn text(s: &[u8]) {
-    io::write_all(STDOUT, s);
+pub fn text(s: &str) {
+    io::write_all(STDOUT, s.as_bytes());
 }
 
 // A space and the number.
 pub fn number(n: u64) {
-    text(b" ");
+    text(" ");
     io::print_decimal(STDOUT, n);
 }
 
@@ -54,16 +54,16 @@ fn hex_part(bytes: &[u8])
     let mut out = io::buffer();
     let n = 2 * bytes.len();
     spell(bytes, &mut out);
-    text(&out[0..n]);
+    io::write_all(STDOUT, &out[..n]);
 }
 
 // A space, and the bytes in hex: `-` for none.
 pub fn hex(bytes: &[u8]) {
     if bytes.is_empty() {
-        text(b" -");
+        text(" -");
         return;
     }
-    text(b" ");
+    text(" ");
     for part in bytes.chunks(2048) {
         hex_part(part);
     }

@@ -4,21 +4,11 @@ ghost use Rattle.std.specs.Prelude.{◌≡◌, ◌+◌, ◌<◌, ◌≤◌, Matc
 // The longest payload, and so the longest table, image, slice and room.
 pub const LONGEST: usize = 262144;
 
-// A slice that starts at a great literal is dear to check, at such an answer it is not.
+// Where the table stands in `still`, and the client's slice in `lent`. The payload and the image stand in front of them.
+pub const SECOND: usize = 262144;
 
-// The table, in `still`; the client's slice, in `lent`. The payload and the image stand in front of them.
-pub fn second() -> usize
-    ensures { result ≡ 262144 }
-{
-    262144
-}
-
-// The copy, in `still`.
-pub fn third() -> usize
-    ensures { result ≡ 524288 }
-{
-    524288
-}
+// Where the copy stands in `still`.
+pub const THIRD: usize = 524288;
 
 // A number of bytes, at most LONGEST.
 #[derive(Clone, Copy)]
@@ -90,7 +80,7 @@ impl Sizes {
                 size: self.image,
             },
             Lent::Slice => Part {
-                at: second(),
+                at: SECOND,
                 size: self.slice,
             },
         }

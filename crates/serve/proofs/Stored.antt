@@ -1,7 +1,5 @@
 -- What a step without room or without input does to the image.
 --   stores_nothing   moves that give nothing and take no more than is offered from any place but Storing leave the image
---   offered_within   no more is offered than there is
---   changed_some     the part of a step that took a byte
 --   taken_within     a step without room takes no more than there is
 --   takes_apart      a step without room changes only its part, which lies in the window
 --   gives_nothing    a step without input leaves the image
@@ -43,7 +41,7 @@ use Rattle.server.proofs.Bounds.{storing_bounds, good_serving, accepted}
 use Rattle.server.proofs.Kept.{picked}
 use Rattle.server.proofs.Writes.{giving_writes_nothing, cut_inside_write}
 use Rattle.server.proofs.Result.{within}
-use Rattle.serve.specs.Stepping.{offered, changed_at, changed, InWindow, Parted}
+use Rattle.serve.specs.Stepping.{offered, changed, InWindow, Parted}
 
 -- ---- places that store nothing while n bytes are taken and none is given
 abbrev Calm : ℕ → State → Type 0
@@ -159,18 +157,6 @@ pub stores_nothing : (t : List ℕ) {is m m' : List ℕ} {x y : State} → Calm 
 stores_nothing t {m = m} {m' = m'} {x = x} {y = y} h p = (calm_moves t m (on x m) (on y m') refl (h, refl) p).1
 
 -- ---- a step without room
-pub offered_within : (x : State) (n : ℕ) → offered x n ≤ n
-offered_within (Shaking p) n = omega arith
-offered_within (Serving e (Header got)) n = omega arith
-offered_within (Serving e (Storing handle off left)) n = omega arith
-offered_within (Serving e (Dropping error handle left)) n = omega arith
-offered_within (Serving e (Replying error handle left off len)) n = omega arith
-offered_within (Serving e (Sending off left)) n = omega arith
-offered_within (Over k) n = omega arith
-
-pub changed_some : (x : State) (k : ℕ) → (k ≡ 0 → ⊥) → changed x k ≡ changed_at x k
-changed_some x zero h = absurd (h refl)
-changed_some x (suc k) h = refl
 
 none_inside : (x : State) → InWindow x (record { from = 0; len = 0 })
 none_inside (Shaking p) = refl

@@ -4,7 +4,7 @@ use crate::record::{BadScript, Record};
 use crate::{command, record};
 use calling::Calling;
 use lines::buffers::Buffers;
-use lines::places::{Lent, Size};
+use lines::places::{Lent, SECOND, Size};
 use lines::{answer, places};
 use serving::Served;
 
@@ -27,9 +27,9 @@ impl Host {
     // Reads a payload to its place: the table, the image and the slice each have their own.
     fn store(&mut self, r: Record) -> Result<(), BadScript> {
         match r.letter {
-            b'T' => record::payload(&mut self.buffers.still, places::second(), r.size),
+            b'T' => record::payload(&mut self.buffers.still, SECOND, r.size),
             b'I' => record::payload(&mut self.buffers.lent, 0, r.size),
-            b'B' => record::payload(&mut self.buffers.lent, places::second(), r.size),
+            b'B' => record::payload(&mut self.buffers.lent, SECOND, r.size),
             _ => record::payload(&mut self.buffers.still, 0, r.size),
         }
     }
@@ -54,8 +54,8 @@ impl Host {
     // `i` and `b`: a part of what is lent, and its line.
     fn show(&self, lent: Lent) {
         match lent {
-            Lent::Image => lines::text(b"image"),
-            Lent::Slice => lines::text(b"slice"),
+            Lent::Image => lines::text("image"),
+            Lent::Slice => lines::text("slice"),
         }
         lines::hex(self.buffers.lent(self.buffers.sizes.part(lent)));
         answer::close(false);

@@ -1,15 +1,8 @@
 -- The step is offered no more than its phase can take, so proofs/Stored.antt says which part it changed.
-use mathlib.Core.Path.{sym}
 use native.Mathlib.Omega.{arith}
-use lib.Seq.{length-take-le}
-use lib.ListN.{length}
 use Rattle.server.proofs.Result.{image_length}
-use Rattle.server.specs.View.{view}
-use Rattle.serve.proofs.Stored.{offered_within, taken_within, takes_apart, no_room}
+use Rattle.serve.proofs.Stored.{taken_within, takes_apart, no_room}
 use Rattle.serve.proofs.stepping.take.Goals as goal
-
-pub slice_bounds-step-end : goal.slice_bounds-step-end
-slice_bounds-step-end c = sym (length-take-le _ _ (rw c.offered-n.ensures (offered_within (view c.args.s) (length c.args.input.now))))
 
 pub changed-part-requires : goal.changed-part-requires
 changed-part-requires c =

@@ -1,9 +1,0 @@
--- The test is the one that `hex_digit_ascii` makes.
-use borrow.Author.Tests.{lt-ltb, le-ltb}
-use Rattle.lines.proofs.digit.Goals as goal
-
-pub returns-then-d-lt10 : goal.returns-then-d-lt10
-returns-then-d-lt10 c = simp (lt-ltb _ _ c.if-d-lt10.true)
-
-pub returns-else-d-lt10 : goal.returns-else-d-lt10
-returns-else-d-lt10 c = simp (le-ltb _ _ c.if-d-lt10.false)
