@@ -3,7 +3,7 @@
 use Rattle.std.specs.Prelude.{ℕ, ◌≤◌, List, length}
 use Rattle.client.specs.Contract.{Drives}
 use Rattle.client.specs.declared.state.Client.{Client}
-use Rattle.client.specs.declared.Stepped.{Stepped}
+use Rattle.client.specs.Answers.{Stepped}
 
 pub record Steps (c : Client) (m input room : List ℕ) (r : Stepped) (m' room' : List ℕ) : Type 0 where
   pub driven : Drives c m input room r m' room'

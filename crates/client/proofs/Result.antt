@@ -32,8 +32,7 @@ use Rattle.client.specs.declared.state.Call.{Call}
 use Rattle.client.specs.declared.state.Call.TheVariants.{Read, Write, Flush, Trim, Resize}
 use Rattle.client.specs.declared.state.Outcome.TheVariants.{Open, Succeeded}
 use Rattle.client.specs.declared.state.Client.{Client}
-use Rattle.client.specs.declared.Called.{Called}
-use Rattle.client.specs.declared.Stepped.{Stepped}
+use Rattle.client.specs.Answers.{Called, Stepped}
 use Rattle.client.specs.declared.refusal.Refusal.{Refusal}
 use Rattle.client.proofs.Refusals.{accepted, sound_ranges, sound_lent, call_ranged}
 use Rattle.client.proofs.Kept.{sound}

@@ -33,8 +33,7 @@ use Rattle.client.specs.declared.state.Outcome.{Outcome}
 use Rattle.client.specs.declared.state.Outcome.TheVariants.{Open, Succeeded, Failed, Ended, Refused}
 use Rattle.client.specs.declared.state.Client.{Client}
 use Rattle.client.specs.declared.state.SeekFrom.{SeekFrom}
-use Rattle.client.specs.declared.Called.{Called}
-use Rattle.client.specs.declared.Stepped.{Stepped}
+use Rattle.client.specs.Answers.{Called, Stepped}
 use Rattle.client.specs.declared.Transfer.{Transfer}
 use Rattle.client.specs.declared.refusal.Refusal.{Refusal}
 use Rattle.client.specs.declared.refusal.Refusal.TheVariants.{PastSize, NotNow, OutOfRange}

@@ -12,8 +12,7 @@ use Rattle.client.specs.Ranges.{refusal}
 use Rattle.client.specs.Contract.{fresh, shaken, reading, writing, trimming, flushing, resizing, seeking, end_of_input, after, Drives}
 use Rattle.client.specs.declared.state.SeekFrom.{SeekFrom}
 use Rattle.client.specs.declared.state.Client.{Client}
-use Rattle.client.specs.declared.Called.{Called}
-use Rattle.client.specs.declared.Stepped.{Stepped}
+use Rattle.client.specs.Answers.{Called, Stepped}
 
 pub data Ask : Type 0 where
   to_shake : ℕ → Ask  -- the name's length

@@ -37,7 +37,7 @@ ghost use Rattle.client.specs.Contract.{
   Drives,
 };
 ghost use Rattle.client.specs.declared.state.Device.{Device};
-ghost use Rattle.client.specs.declared.Called.{Called};
+ghost use Rattle.client.specs.Answers.{Called};
 ghost use Rattle.client.specs.declared.state.Outcome.TheVariants as outcome;
 ghost use Rattle.client.specs.declared.state.Call.{Call};
 
@@ -46,19 +46,9 @@ use machine::ends;
 use refusal::Refusal;
 use state::{Call, Client, Device, Handshake, Outcome, Phase, Progress, SeekFrom, Value};
 
-#[derive(Clone, Copy)]
-pub struct Called {
-    pub state: Client,
-    pub outcome: Outcome,
-}
+pub type Called = ends::Answered<Client, Outcome>;
 
-#[derive(Clone, Copy)]
-pub struct Stepped {
-    pub state: Client,
-    pub taken: usize,
-    pub given: usize,
-    pub outcome: Outcome,
-}
+pub type Stepped = ends::Stepped<Client, Outcome>;
 
 // What a read, a write or a trim may move: so many bytes of this device.
 #[derive(Clone, Copy)]

@@ -27,7 +27,7 @@ use Rattle.client.specs.declared.state.Client.{Client}
 use Rattle.client.specs.declared.state.Device.{Device}
 use Rattle.client.specs.declared.state.Call.{Call}
 use Rattle.client.specs.declared.state.Outcome.TheVariants.{Open}
-use Rattle.client.specs.declared.Stepped.{Stepped}
+use Rattle.client.specs.Answers.{Stepped}
 use Rattle.client.proofs.Tidy.{viewed}
 use Rattle.client.proofs.Result.{idle}
 

@@ -14,7 +14,7 @@ use Rattle.client.specs.View.{view}
 use Rattle.client.specs.Contract.{shaken}
 use Rattle.client.specs.declared.state.Client.{Client}
 use Rattle.client.specs.declared.state.Device.{Device}
-use Rattle.client.specs.declared.Called.{Called as Answer}
+use Rattle.client.specs.Answers.{Called as Answer}
 use Rattle.client.proofs.Result.{in_ranges}
 use Rattle.wire.specs.Results.{Result}
 use Rattle.joined.specs.Disk.{Call}

@@ -18,7 +18,7 @@ use Rattle.server.specs.View.{view as viewed_server}
 use Rattle.server.specs.Ranges.{refusal}
 use Rattle.server.specs.Contract.{Serves}
 use Rattle.server.specs.declared.state.Server.{Server}
-use Rattle.server.specs.declared.Stepped as served
+use Rattle.server.specs.Answers as served
 use Rattle.server.proofs.Result.{never_refused}
 use Rattle.client.specs.View.{view, code}
 use Rattle.client.specs.Session as client
@@ -26,7 +26,7 @@ use Rattle.client.specs.Ranges.{refusal as why}
 use Rattle.client.specs.Contract.{shaken, after, outcome_of, Drives}
 use Rattle.client.specs.History.{Ask, to_shake, to_read, to_write, to_trim, to_flush, to_seek, Reached, by_call, by_step}
 use Rattle.client.specs.declared.state.Client.{Client}
-use Rattle.client.specs.declared.Stepped as driven
+use Rattle.client.specs.Answers as driven
 use Rattle.client.proofs.Tidy.{viewed}
 use Rattle.client.proofs.Result.{goes_on, in_ranges}
 use Rattle.wire.specs.Results.{Result}

@@ -28,7 +28,7 @@ use Rattle.client.specs.declared.state.Call as request
 use Rattle.client.specs.declared.state.Call.TheVariants.{Read, Write, Flush, Trim}
 use Rattle.client.specs.declared.state.Client.{Client}
 use Rattle.client.specs.declared.state.Outcome.TheVariants.{Succeeded}
-use Rattle.client.specs.declared.Called.{Called}
+use Rattle.client.specs.Answers.{Called}
 use Rattle.client.specs.declared.refusal.Refusal.{Refusal}
 use Rattle.wire.specs.Results as results
 use Rattle.joined.specs.Disk.{Call, read, write, seek, flush, trim}

@@ -18,7 +18,7 @@ use Rattle.server.specs.Ranges as refused_server
 use Rattle.server.specs.Contract as served_contract
 use Rattle.server.specs.Contract.{Serves}
 use Rattle.server.specs.declared.state.Server.{Server}
-use Rattle.server.specs.declared.Stepped as served
+use Rattle.server.specs.Answers as served
 use Rattle.server.specs.declared.state.Outcome.TheVariants as server_outcome
 use Rattle.server.proofs.Tidy.{stands_for}
 use Rattle.server.proofs.Bounds as server_bounds
@@ -32,7 +32,7 @@ use Rattle.client.specs.Ranges.{refusal}
 use Rattle.client.specs.Contract.{after, outcome_of, Drives}
 use Rattle.client.specs.declared.state.Client.{Client}
 use Rattle.client.specs.declared.state.Outcome.TheVariants.{Refused}
-use Rattle.client.specs.declared.Stepped as driven
+use Rattle.client.specs.Answers as driven
 use Rattle.client.proofs.Result.{within as driven_within}
 use Rattle.wire.specs.Results.{Result}
 use Rattle.joined.specs.Disk.{Call}

@@ -14,11 +14,11 @@ use lib.Seq.{take-take, take_at, take-append-le, take-append-add}
 use borrow.Rule.Slice.PartMut.{put_mid, Post-is}
 use Rattle.server.specs.Contract.{Serves}
 use Rattle.server.specs.declared.state.Server.{Server}
-use Rattle.server.specs.declared.Stepped as served
+use Rattle.server.specs.Answers as served
 use Rattle.server.proofs.Result.{within as served_within, same_result as same_served}
 use Rattle.client.specs.Contract.{Drives}
 use Rattle.client.specs.declared.state.Client.{Client}
-use Rattle.client.specs.declared.Stepped as driven
+use Rattle.client.specs.Answers as driven
 use Rattle.client.proofs.Result.{within as driven_within, same_result as same_driven}
 use Rattle.joined.specs.Code.{client_step, server_step}
 use Rattle.joined.specs.Wired.{taken_off, put_on, ClientMoves, ServerMoves}

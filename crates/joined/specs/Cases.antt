@@ -19,7 +19,7 @@ use Rattle.client.specs.View.{code}
 use Rattle.client.specs.Calls.{device, positioned}
 use Rattle.client.specs.Contract as calls
 use Rattle.client.specs.declared.state.SeekFrom.TheVariants.{Current}
-use Rattle.client.specs.declared.Called.{Called}
+use Rattle.client.specs.Answers.{Called}
 use Rattle.joined.specs.Disk.{seek, from_here, result}
 
 -- An answer as a list: its first element tells a number, such as a refusal's, from the values of an answer without one.

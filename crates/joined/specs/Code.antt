@@ -27,7 +27,7 @@ use Rattle.server.specs.Session.{Shaking, Greeting}
 use Rattle.server.specs.View.{code}
 use Rattle.server.specs.Contract.{Serves}
 use Rattle.server.specs.declared.state.Server.{Server}
-use Rattle.server.specs.declared.Stepped as served
+use Rattle.server.specs.Answers as served
 use Rattle.client.specs.Session as client
 use Rattle.client.specs.View.{view}
 use Rattle.client.specs.Contract.{number_of, values_of, fresh, shaken, reading, writing, seeking, flushing, trimming, Drives}
@@ -37,8 +37,8 @@ use Rattle.client.specs.declared.state.Outcome.{Outcome}
 use Rattle.client.specs.declared.state.Outcome.TheVariants.{Open, Succeeded, Failed, Ended, Refused}
 use Rattle.client.specs.declared.state.SeekFrom.{SeekFrom}
 use Rattle.client.specs.declared.state.SeekFrom.TheVariants.{Start, Current, End}
-use Rattle.client.specs.declared.Called.{Called}
-use Rattle.client.specs.declared.Stepped as driven
+use Rattle.client.specs.Answers.{Called}
+use Rattle.client.specs.Answers as driven
 use Rattle.wire.specs.Results.{Result}
 use Rattle.joined.specs.Disk.{Disk, From, from_start, from_here, from_end, Call, read, write, seek, flush, trim, succeeds}
 

@@ -7,13 +7,13 @@ use Rattle.std.specs.Prelude.{ℕ, suc, ◌<◌, ◌≡◌, List, [], ◌∷◌,
 use Rattle.machine.specs.Rounds.{Room}
 use Rattle.server.specs.Contract.{Serves}
 use Rattle.server.specs.declared.state.Server.{Server}
-use Rattle.server.specs.declared.Stepped as served
+use Rattle.server.specs.Answers as served
 use Rattle.client.specs.Session as client
 use Rattle.client.specs.View.{view}
 use Rattle.client.specs.Contract.{shaken, Drives}
 use Rattle.client.specs.declared.state.Client.{Client}
-use Rattle.client.specs.declared.Called.{Called}
-use Rattle.client.specs.declared.Stepped as driven
+use Rattle.client.specs.Answers.{Called}
+use Rattle.client.specs.Answers as driven
 use Rattle.wire.specs.Results.{Result}
 use Rattle.joined.specs.Disk.{Call}
 use Rattle.joined.specs.Code.{Code, joint, calls, buffer, client_at, server_at, call_at, Ready}

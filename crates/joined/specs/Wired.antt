@@ -8,10 +8,10 @@ use Rattle.std.specs.Prelude.{ℕ, min, ◌+◌, ◌-◌, ◌≡◌, List, ◌++
 use Rattle.machine.specs.Traffic.{client_bytes, server_bytes}
 use Rattle.server.specs.Contract.{Serves}
 use Rattle.server.specs.declared.state.Server.{Server}
-use Rattle.server.specs.declared.Stepped as served
+use Rattle.server.specs.Answers as served
 use Rattle.client.specs.Contract.{Drives}
 use Rattle.client.specs.declared.state.Client.{Client}
-use Rattle.client.specs.declared.Stepped as driven
+use Rattle.client.specs.Answers as driven
 use Rattle.wire.specs.Results.{Result}
 use Rattle.joined.specs.Disk.{Call}
 use Rattle.joined.specs.Code.{joint, collected, Move}

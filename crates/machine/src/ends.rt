@@ -26,6 +26,22 @@ pub struct Moved<S> {
     pub given: usize,
 }
 
+// What a step answers: where the end stands then, what was taken and given, and how it went.
+#[derive(Clone, Copy)]
+pub struct Stepped<S, O> {
+    pub state: S,
+    pub taken: usize,
+    pub given: usize,
+    pub outcome: O,
+}
+
+// What a call answers that moves no byte.
+#[derive(Clone, Copy)]
+pub struct Answered<S, O> {
+    pub state: S,
+    pub outcome: O,
+}
+
 impl<S> Took<S> {
     // Of a phase that takes nothing.
     pub fn none(state: S) -> Took<S>

@@ -25,7 +25,7 @@ use Rattle.client.specs.declared.state.Client.{Client}
 use Rattle.client.specs.declared.state.Device.{Device}
 use Rattle.client.specs.declared.state.Outcome.{Outcome}
 use Rattle.client.specs.declared.state.Outcome.TheVariants.{Open, Succeeded, Failed, Ended, Refused}
-use Rattle.client.specs.declared.Called.{Called}
+use Rattle.client.specs.Answers.{Called}
 use Rattle.client.proofs.Tidy.{viewed}
 use Rattle.client.proofs.Result.{in_ranges}
 use Rattle.client.proofs.Cutting.{driven_session}

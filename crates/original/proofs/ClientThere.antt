@@ -24,7 +24,7 @@ use Rattle.client.specs.declared.state.Client.{Client}
 use Rattle.client.specs.declared.state.Device.{Device}
 use Rattle.client.specs.declared.state.Outcome.{Outcome}
 use Rattle.client.specs.declared.state.Outcome.TheVariants.{Open, Succeeded, Failed, Ended, Refused}
-use Rattle.client.specs.declared.Stepped as driven
+use Rattle.client.specs.Answers as driven
 use Rattle.client.proofs.Tidy.{viewed}
 use Rattle.client.proofs.Numbers.{numbered, valued}
 use Rattle.client.proofs.Result.{in_ranges}

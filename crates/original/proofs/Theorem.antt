@@ -30,7 +30,7 @@ use Rattle.server.specs.Inner.{Good}
 use Rattle.server.specs.Contract.{Serves, owes_output, ended_at, end_of_input, header_of, Heads}
 use Rattle.server.specs.History.{Reached, fresh, stepped, Calls, done, call}
 use Rattle.server.specs.declared.state.Server.{Server}
-use Rattle.server.specs.declared.Stepped.{Stepped}
+use Rattle.server.specs.Answers.{Stepped}
 use Rattle.server.specs.declared.state.Outcome.TheVariants.{Ended}
 use Rattle.std.specs.Prelude.{Result, ⊤}
 use Rattle.server.specs.declared.oldstyle.NoRoom.{NoRoom}

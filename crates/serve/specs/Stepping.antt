@@ -15,7 +15,7 @@ use Rattle.server.specs.Session.{Transmission, Header, Storing, Dropping, Replyi
 use Rattle.server.specs.View.{view}
 use Rattle.server.specs.Contract.{Serves}
 use Rattle.server.specs.declared.state.Server.{Server}
-use Rattle.server.specs.declared.Stepped.{Stepped}
+use Rattle.server.specs.Answers.{Stepped}
 use Rattle.serve.specs.declared.stepping.Part.{Part}
 use Rattle.serve.specs.declared.stepping.Taken.{Taken}
 

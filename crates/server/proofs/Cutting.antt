@@ -19,7 +19,7 @@ use Rattle.server.specs.Ranges.{refusal}
 use Rattle.server.specs.Contract.{Serves}
 use Rattle.server.specs.History.{Calls, done, call}
 use Rattle.server.specs.declared.state.Server.{Server}
-use Rattle.server.specs.declared.Stepped.{Stepped}
+use Rattle.server.specs.Answers.{Stepped}
 
 module _ (t : List ℕ) where
   pub session_cutting : {x y z : State} {m m' m'' stream os ps rest rest' : List ℕ}

@@ -16,7 +16,7 @@ use Rattle.server.specs.Ranges.{refusal}
 use Rattle.server.specs.Contract.{outcome_of, Serves}
 use Rattle.server.specs.Exchanges.{Exactly}
 use Rattle.server.specs.declared.state.Server.{Server}
-use Rattle.server.specs.declared.Stepped.{Stepped}
+use Rattle.server.specs.Answers.{Stepped}
 use Rattle.server.proofs.Result.{stepped_same}
 
 pub step_exact : {self : Server} {t m input room : List ℕ} {r : Stepped} {m' room' given m₁ : List ℕ} {y : State} → Serves self t m input room r m' room'

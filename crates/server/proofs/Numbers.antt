@@ -10,7 +10,7 @@ use Rattle.server.specs.View.{view}
 use Rattle.server.specs.Ranges.{in_range}
 use Rattle.server.specs.Contract.{number_of, outcome_of, number_at, owes_output, cut_off, ended_at, end_of_input, end_number_at, end_number, Closes}
 use Rattle.server.specs.declared.state.Server.{Server}
-use Rattle.server.specs.declared.InputEnded.{InputEnded}
+use Rattle.server.specs.Answers.{InputEnded}
 use Rattle.server.specs.declared.state.Outcome.TheVariants.{Refused}
 
 pub numbered : (x : State) → number_of (outcome_of x) ≡ number_at x

@@ -37,8 +37,7 @@ use Rattle.server.specs.Inner.{Good}
 use Rattle.server.specs.Contract.{outcome_of, Serves, owes_output, cut_off, ended_at, end_of_input, Closes, header_of, Heads}
 use Rattle.server.specs.History.{Reached, fresh, stepped, closed}
 use Rattle.server.specs.declared.state.Server.{Server}
-use Rattle.server.specs.declared.Stepped.{Stepped}
-use Rattle.server.specs.declared.InputEnded.{InputEnded}
+use Rattle.server.specs.Answers.{Stepped, InputEnded}
 use Rattle.server.specs.declared.state.Outcome.TheVariants.{Ended, Refused}
 use Rattle.server.specs.declared.oldstyle.NoRoom.{NoRoom}
 use Rattle.std.specs.Prelude.{Result, Ok, Err, ⊤}

@@ -33,7 +33,7 @@ use Rattle.server.specs.Inner.{Good}
 use Rattle.server.specs.Contract.{Serves}
 use Rattle.server.specs.Exchanges.{Apart, Has, announced, served, Only, Via, via, Chose, Untouched}
 use Rattle.server.specs.declared.state.Server.{Server}
-use Rattle.server.specs.declared.Stepped.{Stepped}
+use Rattle.server.specs.Answers.{Stepped}
 use Rattle.server.specs.declared.request.Request.{Request}
 use Rattle.server.specs.declared.request.Answer.{Answer}
 use Rattle.server.specs.declared.request.Answer.TheVariants.{Silence, Reply, Data, Store, Swallow, End}

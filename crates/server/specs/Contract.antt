@@ -19,8 +19,7 @@ use Rattle.server.specs.Session.{State, Shaking, Serving, Over, turn}
 use Rattle.server.specs.View.{view, code}
 use Rattle.server.specs.Ranges.{in_range, refusal}
 use Rattle.server.specs.declared.state.Server.{Server}
-use Rattle.server.specs.declared.Stepped.{Stepped}
-use Rattle.server.specs.declared.InputEnded.{InputEnded}
+use Rattle.server.specs.Answers.{Stepped, InputEnded}
 use Rattle.server.specs.declared.oldstyle.NoRoom.{NoRoom}
 use Rattle.server.specs.declared.state.Outcome.{Outcome}
 use Rattle.server.specs.declared.state.Outcome.TheVariants.{GoingOn, Ended, Refused}

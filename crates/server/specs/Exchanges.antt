@@ -18,7 +18,7 @@ use Rattle.server.specs.Session.{Exporting, Transmission, State, Shaking, Servin
 use Rattle.server.specs.View.{code}
 use Rattle.server.specs.Contract.{outcome_of}
 use Rattle.server.specs.declared.request.Request.{Request}
-use Rattle.server.specs.declared.Stepped.{Stepped}
+use Rattle.server.specs.Answers.{Stepped}
 
 abbrev pub Unsupported : ℕ → Type 0
 Unsupported option = (option ≡ NBD_OPT_INFO) ⊎ (option ≡ NBD_OPT_GO) ⊎ (option ≡ NBD_OPT_STRUCTURED_REPLY) ⊎ (option ≡ NBD_OPT_EXTENDED_HEADERS)

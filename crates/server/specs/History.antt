@@ -7,7 +7,7 @@ use Rattle.server.specs.View.{code}
 use Rattle.server.specs.Ranges.{refusal}
 use Rattle.server.specs.Contract.{Serves, end_of_input}
 use Rattle.server.specs.declared.state.Server.{Server}
-use Rattle.server.specs.declared.Stepped.{Stepped}
+use Rattle.server.specs.Answers.{Stepped}
 
 -- whatever tables, images, inputs and rooms are lent, and whether the steps are refused or not
 pub data Reached : Server → Type 0 where

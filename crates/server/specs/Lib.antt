@@ -3,6 +3,7 @@ pub mod Session
 pub mod View
 pub mod Ranges
 pub mod Inner
+pub mod Answers
 pub mod Contract
 pub mod History
 pub mod Exchanges

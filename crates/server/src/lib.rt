@@ -23,19 +23,9 @@ use machine::ends;
 use refusal::Refusal;
 use state::{Handshake, Outcome, Phase, Server};
 
-#[derive(Clone, Copy)]
-pub struct Stepped {
-    pub state: Server,
-    pub taken: usize,
-    pub given: usize,
-    pub outcome: Outcome,
-}
+pub type Stepped = ends::Stepped<Server, Outcome>;
 
-#[derive(Clone, Copy)]
-pub struct InputEnded {
-    pub state: Server,
-    pub outcome: Outcome,
-}
+pub type InputEnded = ends::Answered<Server, Outcome>;
 
 // The end of input, while output is owed or not.
 fn cut_off(s: Server, owed: bool) -> InputEnded
