@@ -28,7 +28,8 @@ fn sent(flags: u8) {
     say::number(table::wire_flags(flags) as u64);
 }
 
-// What a case answers. Its letter says which call it is, with the numbers x and y and the payload.
+// What a case answers. Its letter says which call it is, with the numbers x and y and the payload. It stays a letter, as standard input has it: an
+// enum would be read by this same match, and the line has the letter again.
 fn answer(letter: u8, x: u64, y: u64, payload: &[u8]) {
     match letter {
         // a number x in a field of so many bytes at the place y

@@ -10,6 +10,7 @@ pub enum Answer {
     Done(u64),
     // 01's number 47, with the error of the reply
     Fail(u32),
+    // 01's numbers, as the outcomes have them
     End(u8),
     No(u8),
 }

@@ -3,7 +3,7 @@ use crate::session::Stop;
 use std::fmt;
 use std::fmt::Display;
 
-// What 01's number of an end means.
+// What 01's number of an end means. The server's outcomes have the number.
 fn meaning(n: u8) -> &'static str {
     match n {
         0 => "the client disconnected",

@@ -11,7 +11,7 @@ const STDIN: i32 = 0;
 #[derive(Clone, Copy, Debug, PartialEq, Eq)]
 pub struct BadScript;
 
-// A record's head. The payload comes next.
+// A record's head. The payload comes next. The letter is read once, with the size, where a command is made of both.
 #[derive(Clone, Copy)]
 pub struct Record {
     pub letter: u8,
