@@ -1,14 +1,24 @@
--- Two answers of a public function that stand for the same value are the same answer.
+-- Two answers that a public function's contract allows are the same answer.
+--   same_chosen    of `lowest`
+--   same_sum       of `checked_add_i64`
 --   same_checked   of `check`
 -- Of `started` and `narrowed` it is `one_number` of Words.antt; the other public functions answer an equation.
 use Prim.Native.Nat.{ℕ}
 use mathlib.Core.Path.{◌≡◌, refl, sym, ap, ◌∙◌}
-use Rattle.std.specs.Prelude.{Result, Ok, Err, ⊤}
+use Rattle.std.specs.Prelude.{ℤ, Option, Result, Ok, Err, ⊤}
 use lib.Dec.{eqb}
 use Rattle.machine.specs.Choice.{pick}
+use Rattle.wire.specs.Numbers.{added}
 use Rattle.wire.specs.Table.{fault_of}
+use Rattle.wire.specs.Lookup.{chosen, set_of}
 use Rattle.wire.specs.declared.table.Fault.{Fault}
 use Rattle.wire.specs.declared.table.Fault.TheVariants.{Version, Length, Count, Window, Flags, Name}
+
+pub same_chosen : (set : ℕ) (a b : Option ℕ) → a ≡ chosen (set_of set) → b ≡ chosen (set_of set) → a ≡ b
+same_chosen set a b e f = e ∙ sym f
+
+pub same_sum : (p : ℕ) (d : ℤ) (a b : Option ℕ) → a ≡ added p d → b ≡ added p d → a ≡ b
+same_sum p d a b e f = e ∙ sym f
 
 -- the answer of a number
 answer_of : ℕ → Result ⊤ Fault
