@@ -30,6 +30,7 @@ fn value(v: Value, none: u64) -> u64
     }
 }
 
+// What a line says of an outcome. No `From`: `none` comes with it, and both types are of crates below.
 fn outcome(o: Outcome, none: u64) -> Answer
     ensures { result ≡ called_of none o }
 {

@@ -20,6 +20,7 @@ pub struct Served {
     server: Server,
 }
 
+// What a line says of an outcome. No `From`: that stands beside one of its two types, and both are of crates below.
 fn shown(o: Outcome) -> Answer
     ensures { result ≡ line_of o }
 {

@@ -92,7 +92,7 @@ fn bare(letter: u8) -> Result<Command, BadScript> {
     })
 }
 
-// What a record says. The payload stands at the front, but for one that is lent.
+// What a record says: by its letter, since letters are what a script is written in. The payload stands at the front, but for one that is lent.
 pub fn read(record: Record, payload: &[u8; STILL]) -> Result<Command, BadScript> {
     let size = record.size;
     Ok(match record.letter {
