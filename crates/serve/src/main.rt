@@ -116,6 +116,7 @@ fn run(rt: &HostRuntime, image: &mut [u8; IMAGE]) -> Result<(), Said> {
 }
 
 fn main(rt: HostRuntime) {
+    // an array and the image's size beside it: a `Vec` could fail for want of memory
     let mut image = [0u8; IMAGE];
     let _ = run(&rt, &mut image);
 }

@@ -56,7 +56,7 @@ pub struct Session<'a> {
     room: [u8; PIECE],
 }
 
-// Whether a session goes on, by what its server says.
+// Whether a session goes on, by what its server says. No `From`: a session that goes on is no error.
 fn going_on(o: Outcome) -> Result<(), Stop> {
     match o {
         Outcome::GoingOn => Ok(()),
