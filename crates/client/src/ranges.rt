@@ -116,7 +116,7 @@ pub fn used(p: Phase) -> usize
     }
 }
 
-// Whether a client is within its ranges.
+// Whether a client is within its ranges. The server has the like over its own phases; what they share is `parts::blank`.
 pub fn in_range(s: Client) -> bool
     ensures { result ≡ in_range s }
 {

@@ -47,7 +47,7 @@ pub enum Value {
     Bytes(u32),
     // a seek: the new position
     Position(u64),
-    // a flush, a trim or a resize
+    // a flush, a trim or a resize; hosts know it by this name (docs/API.md)
     Nothing,
 }
 

@@ -68,7 +68,8 @@ pub fn outcome_of(p: Phase) -> Outcome
     }
 }
 
-// The client as it is handed back, with 0 in the bytes of `head` that are not in use.
+// The client as it is handed back, with 0 in the bytes of `head` that are not in use. The server has the like over its own phases and
+// its own array.
 pub fn canonical(s: Client) -> Client
     requires { used s.phase ≤ 16 }
     ensures { result ≡ code (after (view s)) }

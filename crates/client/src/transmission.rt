@@ -35,7 +35,7 @@ pub struct Exchange {
 }
 
 impl Exchange {
-    // ---- the phases that follow where nothing may be left
+    // ---- the phases that follow where nothing may be left. Each is one test: a closure for what follows would say no less.
 
     fn calling(self, progress: Progress) -> Phase
         ensures { (h : List ℕ) → view_of h result ≡ Calling self.device self.call (progress_of h progress) }

@@ -25,7 +25,7 @@ pub struct Moved<S> {
     pub downs: usize,
 }
 
-// The two moves stay two functions: what each lends beside the wires and what it promises are its own end's.
+// The two moves stay two functions: what each lends beside the wires and what it promises (`ClientMoves`, `ServerMoves`) are its own end's.
 
 // Steps the client on a piece of the wire down, with some of the space on the wire up.
 pub fn client_move(

@@ -111,6 +111,7 @@ pub fn advance<E: End>(
     let mut at = s;
     let mut i = 0;
     let mut o = 0;
+    // a turn goes as far as one phase does, and how many there are the machine says
     loop {
         let r = turn(at, &input[i..], &mut room[o..], still, lent);
         at = r.state;

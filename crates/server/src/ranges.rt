@@ -164,7 +164,7 @@ pub fn used(p: Phase) -> usize
     }
 }
 
-// Whether a server is within its ranges.
+// Whether a server is within its ranges. The client has the like over its own phases; what they share is `parts::blank`.
 pub fn in_range(s: Server) -> bool
     ensures { result ≡ in_range s }
 {

@@ -3,8 +3,8 @@
 use wire::table::Export;
 use wire::utf8::Utf8;
 
-// ---- the phases that hold more than two values. `zeroes`: whether the reply to EXPORT_NAME ends in 124 zero bytes. `left`: how many bytes are
-// still to be taken or given.
+// ---- the phases that hold more than two values, and a part of the window. `zeroes`: whether the reply to EXPORT_NAME ends in 124 zero bytes.
+// `left`: how many bytes are still to be taken or given.
 
 // A name: the exports that fit it so far, its text so far, its next place.
 #[derive(Clone, Copy)]

@@ -21,10 +21,12 @@ impl End for Server {
 
     // What is lent to be read is the table, and the rest the image.
     fn absorb(self, input: &[u8], table: &[u8], image: &mut [u8]) -> Took<Server> {
-        // A header would be judged again where nothing comes: so the parts ask for some input, by a `requires` each, as no type of slices says it.
+        // A header would be judged again where nothing comes: so the parts ask for some input, by a `requires` each. A struct that holds one slice to
+        // say so, made here alone, would be no plainer.
         if input.is_empty() {
             return Took::none(self);
         }
+        // a match on the phase: a function that a phase held could not be handed in by a host
         match self.phase {
             Phase::Shaking(h) => handshake::absorb(self.head, h, table, input),
             Phase::Serving(export, t) => {
@@ -59,7 +61,7 @@ pub fn outcome_of(s: Server) -> Outcome
     }
 }
 
-// The same, with 0 in the bytes of `head` that are not in use.
+// The same, with 0 in the bytes of `head` that are not in use. The client has the like over its own phases and its own array.
 pub fn canonical(s: Server) -> Server
     requires { used s.phase ≤ 28 }
     ensures { result ≡ code (view s) }

@@ -23,6 +23,7 @@ pub trait Field: Copy {
     ghost narrow: { BYTES ≤ 8 };
 }
 
+// Three impls that differ in a width: one that a macro of this repository wrote would be refused.
 impl Field for u16 {
     ghost BYTES = { 2 };
 
@@ -77,7 +78,7 @@ impl Field for u64 {
     }
 }
 
-// The number that the bytes stand for.
+// The number that the bytes stand for. std's `from_be_bytes` takes an array of one type's own length, and a field's length is `T::BYTES`.
 fn number(bytes: &[u8]) -> u64
     requires { length bytes.now ≤ 8 }
     ensures { result ≡ number bytes.now }

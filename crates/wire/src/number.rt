@@ -9,6 +9,7 @@ pub fn clamp_to_u32(x: u64) -> u32
     u32::try_from(x).unwrap_or(u32::MAX)
 }
 
+// The two names are the crate's. A usize is not `Into<u64>`, so one generic function would want a trait for this one cast.
 pub fn clamp_usize_to_u32(x: usize) -> u32
     ensures { result ≡ clamped x }
 {

@@ -17,7 +17,7 @@ pub enum Utf8 {
     AfterED,
     AfterF0,
     AfterF4,
-    // no text begins so
+    // no text begins so; a place like the others, of which `bad_for_ever` speaks
     Bad,
 }
 
