@@ -42,6 +42,7 @@ fn has(flags: u16, bit: u16) -> bool
     flags % 2 == 1 && flags / bit % 2 == 1
 }
 
+// No `From`: that a u16 is an export's flags is for its caller to know.
 fn fields_of(flags: u16) -> Fields
     ensures { result ≡ fields_of flags }
 {

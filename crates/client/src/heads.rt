@@ -1,5 +1,6 @@
-// Headers: bytes that are gathered in the state, and judged when all are there. The server's are arrays of another length, and no closure takes an
-// array of any length: so each has its own.
+// Headers: bytes that are gathered in the state, and judged when all are there. The server's are arrays of another length, and
+// no bound on a closure names a length; over slices a second closure would have to make the state: so each has its own.
+// A judge is given the array and a count, since the phase that it answers is read with the array.
 ghost use Rattle.std.specs.Prelude.{List, ℕ, ◌+◌, ◌≤◌};
 ghost use Rattle.machine.specs.Inner.{Gathered};
 

@@ -23,6 +23,7 @@ impl End for Client {
     // Takes what the phase takes of the input.
     fn absorb(self, input: &[u8], _still: &[u8], lent: &mut [u8]) -> Took<Client> {
         let head = self.head;
+        // a match on the phase: a function that a phase held could not be handed in by a host
         match self.phase {
             Phase::Shaking(name, h) => Shake { head, name }.absorb(h, input),
             Phase::Calling(device, call, p) => {
