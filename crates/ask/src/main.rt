@@ -9,7 +9,7 @@ mod words;
 
 ghost use Rattle.std.specs.Io.{ReadsAtMost};
 
-use host::words::{fail, say};
+use host::words::{fail, say, tell};
 use host::{args, files, text};
 use obeying::Session;
 use std::io::Result;
@@ -26,12 +26,12 @@ fn obey_line(session: &mut Session, k: u64, line: &[u8]) {
     if text::is_end(line) {
         return;
     }
-    say(format_args!("ask: line {k}: "));
+    tell(format_args!("ask: line {k}: "));
     let mut buffer = io::buffer();
     match orders::parse(line, &mut buffer) {
         Some(order) => session.obey(order),
         None => say(
-            "read N FILE, write FILE, seek start|position|end N, flush, trim N or resize N is meant\n",
+            b"read N FILE, write FILE, seek start|position|end N, flush, trim N or resize N is meant\n",
         ),
     }
 }
@@ -49,13 +49,13 @@ fn connect(rt: &HostRuntime, name: &mut [u8], script: &[u8], buffer: &mut [u8]) 
 
 fn start(rt: &HostRuntime, script: &[u8], buffer: &mut [u8]) {
     if script.len() == SCRIPT {
-        say("ask: the script is longer than 65536 bytes\n");
+        say(b"ask: the script is longer than 65536 bytes\n");
         return;
     }
     let mut name = io::buffer();
     match args::get(rt, 1, &mut name) {
         Ok(n) => connect(rt, &mut name[..n], script, buffer),
-        Err(e) => fail("ask: the export's name", e),
+        Err(e) => fail(b"ask: the export's name", e),
     }
 }
 
@@ -68,7 +68,7 @@ fn read_script(rt: &HostRuntime, script: &mut [u8]) -> Result<usize>
     match files::open_read(rt, &word[..n]) {
         Ok(mut file) => files::fill(&mut file, script),
         Err(e) => {
-            fail("ask: the script", e);
+            fail(b"ask: the script", e);
             Err(e)
         }
     }
@@ -76,11 +76,11 @@ fn read_script(rt: &HostRuntime, script: &mut [u8]) -> Result<usize>
 
 fn run(rt: &HostRuntime, buffer: &mut [u8; BUFFER]) {
     if args::count(rt) != 3 {
-        say("usage: ask NAME SCRIPT\n");
+        say(b"usage: ask NAME SCRIPT\n");
         say(
-            "It speaks NBD on standard input and output, and makes the calls of the script, one to a line:\n",
+            b"It speaks NBD on standard input and output, and makes the calls of the script, one to a line:\n",
         );
-        say("read N FILE, write FILE, seek start|position|end N, flush, trim N, resize N\n");
+        say(b"read N FILE, write FILE, seek start|position|end N, flush, trim N, resize N\n");
         return;
     }
     let mut script = [0u8; SCRIPT];

@@ -8,7 +8,7 @@ use crate::words::Told;
 use client::Called;
 use client::state::{Outcome, Value};
 use host::files;
-use host::words::{fail, say};
+use host::words::{fail, say, tell};
 use std::io::{Result, Write};
 
 // A talk, and the buffer for what its calls move.
@@ -37,7 +37,7 @@ impl<'r, 'b> Session<'r, 'b> {
         let mut talk = Talk::new(rt.stdin());
         let c = talk.client.handshake(name);
         talk.drive(c, name);
-        say(format_args!("ask: {}\n", Told(talk.outcome)));
+        tell(format_args!("ask: {}\n", Told(talk.outcome)));
         Session { rt, talk, buffer }
     }
 
@@ -52,14 +52,14 @@ impl<'r, 'b> Session<'r, 'b> {
         ensures { length self.new.buffer.now ≡ length self.old.buffer.now }
     {
         self.talk.drive(c, &mut self.buffer[..lent]);
-        say(format_args!("{}\n", Told(self.talk.outcome)));
+        tell(format_args!("{}\n", Told(self.talk.outcome)));
     }
 
     fn read(&mut self, n: u64, name: &[u8]) {
         let n = n as usize;
         let most = self.buffer.len();
         if most < n {
-            say("only its first bytes: ");
+            say(b"only its first bytes: ");
         }
         let lent = n.min(most);
         let c = self.talk.client.read(&self.buffer[..lent]);
@@ -67,7 +67,7 @@ impl<'r, 'b> Session<'r, 'b> {
         if let Outcome::Succeeded(Value::Bytes(got)) = self.talk.outcome {
             let got = lent.min(got as usize);
             if let Err(e) = save(self.rt, name, &self.buffer[..got]) {
-                fail("the file cannot be written", e);
+                fail(b"the file cannot be written", e);
             }
         }
     }
@@ -76,13 +76,13 @@ impl<'r, 'b> Session<'r, 'b> {
     fn write(&mut self, name: &[u8]) {
         match load(self.rt, name, self.buffer) {
             Ok(n) if n == self.buffer.len() => {
-                say("the file is too large, one call moves at most 4194304 bytes\n")
+                say(b"the file is too large, one call moves at most 4194304 bytes\n")
             }
             Ok(n) => {
                 let c = self.talk.client.write(&self.buffer[..n]);
                 self.call(c, n);
             }
-            Err(e) => fail("the file cannot be read", e),
+            Err(e) => fail(b"the file cannot be read", e),
         }
     }
 

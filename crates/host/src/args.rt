@@ -20,7 +20,7 @@ pub fn count(rt: &impl Env) -> usize {
     usize::MAX
 }
 
-// Puts an argument at the start of the buffer, and answers its length.
+// Puts an argument at the start of the buffer, and answers its length. Into an array: a `String` could fail for want of memory.
 pub fn get(rt: &impl Env, i: usize, buf: &mut [u8]) -> std::io::Result<usize>
     ensures { ReadsAtMost result buf.new }
 {

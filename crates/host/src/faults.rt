@@ -1,4 +1,5 @@
 // A table that is refused: why, and which record it is.
+use crate::words::tell;
 use std::fmt;
 use wire::records::Records;
 use wire::table;
@@ -18,10 +19,10 @@ pub fn text(fault: Fault) -> &'static str {
 
 // A table that has this fault, for an image of so many bytes: as text, with the record that has it.
 #[derive(Clone, Copy)]
-pub struct BadTable<'a> {
-    pub fault: Fault,
-    pub table: &'a [u8],
-    pub image: usize,
+struct BadTable<'a> {
+    fault: Fault,
+    table: &'a [u8],
+    image: usize,
 }
 
 // Which record has the table's first fault: the one behind those that are sound.
@@ -41,4 +42,14 @@ impl fmt::Display for BadTable<'_> {
         }
         f.write_str(text(self.fault))
     }
+}
+
+// A line: the program's name, and what is wrong with a table that has this fault, for an image of so many bytes.
+pub fn say_bad_table(who: &str, fault: Fault, table: &[u8], image: usize) {
+    let bad = BadTable {
+        fault,
+        table,
+        image,
+    };
+    tell(format_args!("{who}: {bad}\n"));
 }

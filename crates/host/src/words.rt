@@ -7,8 +7,8 @@ use std::io::Error;
 
 const STDERR: i32 = 2;
 
-pub fn say_bytes(bytes: &[u8]) {
-    io::write_all(STDERR, bytes);
+pub fn say(text: &[u8]) {
+    io::write_all(STDERR, text);
 }
 
 // Standard error, as `write!` takes it.
@@ -17,12 +17,12 @@ struct Stderr;
 
 impl fmt::Write for Stderr {
     fn write_str(&mut self, s: &str) -> fmt::Result {
-        say_bytes(s.as_bytes());
+        say(s.as_bytes());
         Ok(())
     }
 }
 
-pub fn say(message: impl Display + Drop) {
+pub fn tell(message: impl Display + Drop) {
     let _ = write!(Stderr, "{message}");
 }
 
@@ -52,14 +52,14 @@ fn without_number(text: &[u8]) -> &[u8] {
 }
 
 // A line: what failed, as the caller names it, a colon and why, which is an error of the system's.
-pub fn fail(what: &str, error: Error) {
+pub fn fail(what: &[u8], error: Error) {
     let mut shown = Shown {
         text: [0u8; 256],
         len: 0,
     };
     let _ = write!(shown, "{error}");
     say(what);
-    say(": ");
-    say_bytes(without_number(&shown.text[..shown.len]));
-    say("\n");
+    say(b": ");
+    say(without_number(&shown.text[..shown.len]));
+    say(b"\n");
 }

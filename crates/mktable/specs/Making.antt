@@ -2,7 +2,7 @@
 --   ParsedIn k   the record that it asks for, if any, has a name of at most k bytes
 use Rattle.std.specs.Prelude.{ℕ, ◌≤◌, length, Option, Result, IfSome, IfOk}
 use Rattle.host.specs.declared.text.Mistake.{Mistake}
-use Rattle.mktable.specs.declared.making.Record.{Record}
+use Rattle.wire.specs.declared.records.Entry.{Entry}
 
-abbrev pub ParsedIn : ℕ → Result (Option Record) Mistake → Type 0
-ParsedIn k r = IfOk r (λ (o : Option Record). IfSome o (λ (x : Record). length x.name.now ≤ k))
+abbrev pub ParsedIn : ℕ → Result (Option Entry) Mistake → Type 0
+ParsedIn k r = IfOk r (λ (o : Option Entry). IfSome o (λ (x : Entry). length x.name.now ≤ k))

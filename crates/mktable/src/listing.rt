@@ -1,7 +1,6 @@
 // From a table to lines of text that make it again.
 use crate::STDOUT;
-use host::faults::BadTable;
-use host::words::say;
+use host::faults;
 use wire::records::{Entry, Records};
 use wire::table;
 use wire::table::Export;
@@ -65,13 +64,6 @@ pub fn list(table: &[u8], image: usize) {
                 write_record(e);
             }
         }
-        Err(fault) => {
-            let bad = BadTable {
-                fault,
-                table,
-                image,
-            };
-            say(format_args!("mktable: {bad}\n"));
-        }
+        Err(fault) => faults::say_bad_table("mktable", fault, table, image),
     }
 }

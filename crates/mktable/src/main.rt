@@ -26,16 +26,13 @@ fn size(rt: &HostRuntime) -> Option<usize> {
 
 fn is_list(rt: &HostRuntime) -> bool {
     let mut word = io::buffer();
-    match args::get(rt, 2, &mut word) {
-        Ok(n) => matches!(&word[..n], b"list"),
-        Err(_) => false,
-    }
+    args::get(rt, 2, &mut word).is_ok_and(|n| &word[..n] == b"list".as_slice())
 }
 
 fn usage() {
-    say("usage: mktable SIZE < LINES > TABLE\n       mktable SIZE list < TABLE > LINES\n");
-    say("SIZE is the image's size in bytes. A line has a name, a start and a size, and any of\n");
-    say("the words readonly, resizeable, rotational and trim; # starts a comment.\n");
+    say(b"usage: mktable SIZE < LINES > TABLE\n       mktable SIZE list < TABLE > LINES\n");
+    say(b"SIZE is the image's size in bytes. A line has a name, a start and a size, and any of\n");
+    say(b"the words readonly, resizeable, rotational and trim; # starts a comment.\n");
 }
 
 fn obey(rt: &HostRuntime, image: usize, text: &[u8]) {
@@ -58,9 +55,9 @@ fn run(rt: &HostRuntime, text: &mut [u8; TEXT]) {
 
 fn read_and_obey(rt: &HostRuntime, image: usize, text: &mut [u8]) {
     match files::fill(&mut rt.stdin(), text) {
-        Ok(n) if n == text.len() => say("mktable: standard input is too long\n"),
+        Ok(n) if n == text.len() => say(b"mktable: standard input is too long\n"),
         Ok(n) => obey(rt, image, &text[..n]),
-        Err(e) => words::fail("mktable: standard input", e),
+        Err(e) => words::fail(b"mktable: standard input", e),
     }
 }
 

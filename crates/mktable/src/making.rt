@@ -4,20 +4,13 @@ ghost use Rattle.wire.specs.Table.{fault};
 ghost use Rattle.mktable.specs.Making.{ParsedIn};
 
 use crate::{STDOUT, flags};
-use host::faults::BadTable;
 use host::text::Mistake;
-use host::words::say;
+use host::words::{say, tell};
 use host::{faults, text};
 use std::fmt;
+use wire::records::Entry;
 use wire::table::{Export, Fault};
 use wire::{fields, table};
-
-// What a line asks for.
-#[derive(Clone, Copy)]
-pub struct Record<'a> {
-    pub export: Export,
-    pub name: &'a [u8],
-}
 
 // Why a line adds no record.
 #[derive(Clone, Copy)]
@@ -55,8 +48,8 @@ fn number(line: &[u8]) -> Result<(u64, &[u8]), Mistake> {
     text::number(text::skip(line)).ok_or(Mistake::NoNumber)
 }
 
-// The name is put into the buffer.
-fn parse<'a>(line: &[u8], buffer: &'a mut [u8]) -> Result<Option<Record<'a>>, Mistake>
+// The record that a line asks for. The name is put into the buffer.
+fn parse<'a>(line: &[u8], buffer: &'a mut [u8]) -> Result<Option<Entry<'a>>, Mistake>
     ensures { ParsedIn (length buffer.old) result }
 {
     let line = text::skip(line);
@@ -68,7 +61,7 @@ fn parse<'a>(line: &[u8], buffer: &'a mut [u8]) -> Result<Option<Record<'a>>, Mi
     let (size, rest) = number(rest)?;
     let flags = flags::in_words(rest)?;
     let export = Export { start, size, flags };
-    Ok(Some(Record { export, name }))
+    Ok(Some(Entry { export, name }))
 }
 
 // ---- the table
@@ -92,7 +85,7 @@ fn write_table(table: &[u8], image: usize)
 {
     let written = io::write_all(STDOUT, table);
     if !written {
-        say("mktable: the table cannot be written\n");
+        say(b"mktable: the table cannot be written\n");
     }
 }
 
@@ -119,7 +112,7 @@ impl<'a> Draft<'a> {
     }
 
     // Adds a record if the table stays sound.
-    fn add(&mut self, r: Record<'_>) -> Result<(), Fault>
+    fn add(&mut self, r: Entry<'_>) -> Result<(), Fault>
         requires { length r.name.now ≤ 4096 }
     {
         let name = r.name;
@@ -149,14 +142,7 @@ impl<'a> Draft<'a> {
         let image = self.image;
         match table::check(table, image) {
             Ok(()) => write_table(table, image),
-            Err(fault) => {
-                let bad = BadTable {
-                    fault,
-                    table,
-                    image,
-                };
-                say(format_args!("mktable: {bad}\n"));
-            }
+            Err(fault) => faults::say_bad_table("mktable", fault, table, image),
         }
     }
 }
@@ -169,7 +155,7 @@ pub fn make(text: &[u8], image: usize, buffer: &mut [u8])
     let mut good = true;
     for (k, line) in (1u64..).zip(text.split(|b| *b == b'\n')) {
         if let Err(wrong) = draft.add_line(line) {
-            say(format_args!("mktable: line {k}: {wrong}\n"));
+            tell(format_args!("mktable: line {k}: {wrong}\n"));
             good = false;
         }
     }

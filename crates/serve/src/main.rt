@@ -7,9 +7,8 @@ mod stops;
 
 ghost use Rattle.std.specs.Prelude.{◌≤◌, length, IfOk};
 
-use host::faults::BadTable;
-use host::words::{say, say_bytes};
-use host::{args, files, words};
+use host::words::{say, tell};
+use host::{args, faults, files, words};
 use session::{Image, Session};
 use std::fs::File;
 use std::io::Error;
@@ -33,16 +32,16 @@ struct Opened {
 }
 
 // What cannot be done, and why.
-fn fail(what: &str, error: Error) -> Said {
+fn fail(what: &[u8], error: Error) -> Said {
     words::fail(what, error);
     Said
 }
 
 // The same, of the file of this name.
-fn fail_at(name: &[u8], what: &str, error: Error) -> Said {
-    say("serve: ");
-    say_bytes(name);
-    say(": ");
+fn fail_at(name: &[u8], what: &[u8], error: Error) -> Said {
+    say(b"serve: ");
+    say(name);
+    say(b": ");
     fail(what, error)
 }
 
@@ -51,35 +50,35 @@ fn load_table(rt: &HostRuntime, table: &mut [u8]) -> Result<usize, Said>
     ensures { IfOk result (λ n. n ≤ length table.old) }
 {
     let mut buffer = io::buffer();
-    let n = args::get(rt, 1, &mut buffer).map_err(|e| fail("serve: the table's name", e))?;
+    let n = args::get(rt, 1, &mut buffer).map_err(|e| fail(b"serve: the table's name", e))?;
     let name = &buffer[..n];
     let mut file = files::open_read(rt, name).map_err(|e| fail_at(
         name,
-        "cannot open the table",
+        b"cannot open the table",
         e,
     ))?;
-    files::fill(&mut file, table).map_err(|e| fail_at(name, "cannot read the table", e))
+    files::fill(&mut file, table).map_err(|e| fail_at(name, b"cannot read the table", e))
 }
 
 // Opens the image, and reads it to the front of this buffer.
 fn load_image(rt: &HostRuntime, image: &mut [u8; IMAGE]) -> Result<Opened, Said> {
     let mut buffer = io::buffer();
-    let n = args::get(rt, 2, &mut buffer).map_err(|e| fail("serve: the image's name", e))?;
+    let n = args::get(rt, 2, &mut buffer).map_err(|e| fail(b"serve: the image's name", e))?;
     let name = &buffer[..n];
     let mut file = files::open_update(rt, name).map_err(|e| fail_at(
         name,
-        "cannot open the image to read and write it",
+        b"cannot open the image to read and write it",
         e,
     ))?;
     let size = files::fill(&mut file, image).map_err(|e| fail_at(
         name,
-        "cannot read the image",
+        b"cannot read the image",
         e,
     ))?;
     if size == IMAGE {
-        say("serve: ");
-        say_bytes(name);
-        say(": too large, an image of at most 4194304 bytes can be served\n");
+        say(b"serve: ");
+        say(name);
+        say(b": too large, an image of at most 4194304 bytes can be served\n");
         return Err(Said);
     }
     Ok(Opened { file, size })
@@ -90,22 +89,17 @@ fn serve(rt: &HostRuntime, file: &File, table: &[u8], image: &mut [u8])
     requires { length image.old ≤ 4194304 }
 {
     if let Err(fault) = table::check(table, image.len()) {
-        let bad = BadTable {
-            fault,
-            table,
-            image: image.len(),
-        };
-        say(format_args!("serve: {bad}\n"));
+        faults::say_bad_table("serve", fault, table, image.len());
         return;
     }
     let mut session = Session::new(rt.stdin(), table, Image::new(file, image));
     let stop = session.serve();
-    words::say(format_args!("serve: {stop}\n"));
+    tell(format_args!("serve: {stop}\n"));
 }
 
 fn run(rt: &HostRuntime, image: &mut [u8; IMAGE]) -> Result<(), Said> {
     if args::count(rt) != 3 {
-        say("usage: serve TABLE IMAGE\nIt serves one NBD client on standard input and output.\n");
+        say(b"usage: serve TABLE IMAGE\nIt serves one NBD client on standard input and output.\n");
         return Err(Said);
     }
     let mut table = [0u8; TABLE];

@@ -15,6 +15,7 @@ const PIECE: usize = 262144;
 // Why a session stops.
 #[derive(Clone, Copy)]
 pub enum Stop {
+    // 01's numbers, as the server's outcomes have them
     Ended(u8),
     Refused(u8),
     // the client does not read any more
