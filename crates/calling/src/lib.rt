@@ -5,7 +5,7 @@ pub mod asked;
 
 ghost use Rattle.std.specs.Prelude.{◌≡◌};
 ghost use Rattle.machine.specs.Choice.{pick};
-ghost use Rattle.client.specs.Contract.{known};
+ghost use Rattle.client.specs.Contract.{known, fresh};
 ghost use Rattle.calling.specs.Text.{value_shown, called_of, resizing, size_of};
 
 use asked::{Call, Made};
@@ -50,7 +50,7 @@ fn resizing(s: Client) -> bool
     matches!(s.phase, Phase::Calling(_, state::Call::Resize { .. }, _))
 }
 
-// The client's size, 0 where it has none.
+// The client's size. Where it has none the line shows 0.
 fn size(s: Client) -> u64
     ensures { result ≡ size_of (known s) }
 {
@@ -78,10 +78,10 @@ fn show_device(d: Device) {
 }
 
 fn show(s: Client) {
-    lines::text("client");
+    lines::text(b"client");
     match s.info() {
         Some(d) => show_device(d),
-        None => lines::text(" -"),
+        None => lines::text(b" -"),
     }
     answer::close(false);
 }
@@ -125,7 +125,9 @@ impl Driven for Calling {
 }
 
 impl Calling {
-    pub fn new() -> Calling {
+    pub fn new() -> Calling
+        ensures { result.client ≡ fresh }
+    {
         Calling {
             client: Client::new(),
         }

@@ -1,4 +1,7 @@
 // The line of a call.
+ghost use Rattle.std.specs.Prelude.{◌≡◌};
+ghost use Rattle.lines.specs.Marks.{refusal};
+
 use crate::{hex, number, text};
 
 // What a call answered.
@@ -16,7 +19,9 @@ pub enum Answer {
 }
 
 impl Answer {
-    pub fn is_refusal(self) -> bool {
+    pub fn is_refusal(self) -> bool
+        ensures { result ≡ refusal self }
+    {
         matches!(self, Answer::No(_))
     }
 }
@@ -28,7 +33,7 @@ fn moved(taken: usize, given: &[u8]) {
     hex(given);
 }
 
-fn with_number(word: &str, n: u64) {
+fn with_number(word: &[u8], n: u64) {
     text(word);
     number(n);
 }
@@ -36,19 +41,19 @@ fn with_number(word: &str, n: u64) {
 // The end of a line: ` !` where something changed that may not.
 pub fn close(changed: bool) {
     if changed {
-        text(" !");
+        text(b" !");
     }
-    text("\n");
+    text(b"\n");
 }
 
 // The line of an answer with the bytes taken and given, which a refusal has none of.
 pub fn line(a: Answer, taken: usize, given: &[u8], changed: bool) {
     match a {
-        Answer::On => text("on"),
-        Answer::Done(n) => with_number("ok", n),
-        Answer::Fail(n) => with_number("fail", u64::from(n)),
-        Answer::End(n) => with_number("end", u64::from(n)),
-        Answer::No(n) => with_number("no", u64::from(n)),
+        Answer::On => text(b"on"),
+        Answer::Done(n) => with_number(b"ok", n),
+        Answer::Fail(n) => with_number(b"fail", u64::from(n)),
+        Answer::End(n) => with_number(b"end", u64::from(n)),
+        Answer::No(n) => with_number(b"no", u64::from(n)),
     }
     if !a.is_refusal() {
         moved(taken, given);

@@ -1,6 +1,6 @@
 // The buffers around a step. The room is AA before the call, so that what the call wrote shows; what is lent is copied, so that a refusal can be
 // seen to leave it.
-ghost use Rattle.std.specs.Prelude.{◌≡◌, ◌==◌, ◌≤◌, length};
+ghost use Rattle.std.specs.Prelude.{◌≡◌, ◌==◌, ◌≤◌, length, take, drop};
 ghost use Rattle.lines.specs.Marks.{unchanged};
 
 use crate::answer;
@@ -50,7 +50,9 @@ impl Buffers {
     }
 
     // The part of what is lent.
-    pub fn lent(&self, p: Part) -> &[u8] {
+    pub fn lent(&self, p: Part) -> &[u8]
+        ensures { result.now ≡ take p.size.bytes (drop p.at self.now.lent) }
+    {
         &self.lent[p.at..p.at + p.size.bytes]
     }
 

@@ -11,16 +11,16 @@ ghost use Rattle.std.proofs.Math.Seq.{paste};
 ghost use Rattle.io.specs.Digits.{hex_digit_ascii};
 ghost use Rattle.lines.specs.Hex.{hex_of};
 
-// Standard output.
+// Standard output. `text` and `number` stand here too: `host`, which has the like, is not below this crate.
 const STDOUT: i32 = 1;
 
-pub fn text(s: &str) {
-    io::write_all(STDOUT, s.as_bytes());
+pub fn text(s: &[u8]) {
+    io::write_all(STDOUT, s);
 }
 
 // A space and the number.
 pub fn number(n: u64) {
-    text(" ");
+    text(b" ");
     io::print_decimal(STDOUT, n);
 }
 
@@ -29,6 +29,7 @@ pub fn bit(b: bool) {
     number(u64::from(b));
 }
 
+// A hex digit. `hex_of` is promised of what is written, and the kit's print_hex writes a byte at a time.
 fn digit(d: u8) -> u8
     requires { d < 16 }
     ensures { result ≡ hex_digit_ascii d }
@@ -60,10 +61,10 @@ fn hex_part(bytes: &[u8])
 // A space, and the bytes in hex: `-` for none.
 pub fn hex(bytes: &[u8]) {
     if bytes.is_empty() {
-        text(" -");
+        text(b" -");
         return;
     }
-    text(" ");
+    text(b" ");
     for part in bytes.chunks(2048) {
         hex_part(part);
     }

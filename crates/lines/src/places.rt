@@ -1,5 +1,6 @@
 // Where things stand in the buffers: in `still` the payload, the table and a copy of what was lent; in `lent` the image and the client's slice.
 ghost use Rattle.std.specs.Prelude.{◌≡◌, ◌+◌, ◌<◌, ◌≤◌, MatchOption};
+ghost use Rattle.lines.specs.Places.{of_lent};
 
 // The longest payload, and so the longest table, image, slice and room.
 pub const LONGEST: usize = 262144;
@@ -63,7 +64,9 @@ impl Size {
 
 impl Sizes {
     // Of nothing.
-    pub fn new() -> Sizes {
+    pub fn new() -> Sizes
+        ensures { result.table.bytes ≡ 0 × result.image.bytes ≡ 0 × result.slice.bytes ≡ 0 }
+    {
         let none = Size { bytes: 0 };
         Sizes {
             table: none,
@@ -73,7 +76,10 @@ impl Sizes {
     }
 
     // Where what is lent stands.
-    pub fn part(self, lent: Lent) -> Part {
+    pub fn part(self, lent: Lent) -> Part
+        ensures at { result.at ≡ of_lent 0 262144 lent }
+        ensures size { result.size ≡ of_lent self.image self.slice lent }
+    {
         match lent {
             Lent::Image => Part {
                 at: 0,

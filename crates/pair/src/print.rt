@@ -4,7 +4,7 @@ use client::state::{Fields, Outcome, Value};
 use std::fmt;
 use std::fmt::{Display, Write};
 
-// Standard output.
+// Standard output. It is written to here: `host`, which has the like, is not below this crate.
 const STDOUT: i32 = 1;
 
 // The same, as `write!` takes it.

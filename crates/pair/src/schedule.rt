@@ -21,7 +21,7 @@ pub struct Schedule {
 
 #[derive(Clone, Copy)]
 pub struct Choice {
-    // the client moves, or else the server
+    // whether the client moves, or else the server: a flag, as chance gives it, and as `Ends::moves` asks once
     pub client: bool,
     pub piece: usize,
     pub room: usize,
@@ -32,7 +32,8 @@ impl Schedule {
         Schedule { order, at: 1 }
     }
 
-    // The next choice. `at` goes on to the next number of a row that looks like chance.
+    // The next choice. `at` goes on to the next number of a row that looks like chance. One match over the order: closures that are
+    // handed out are refused.
     pub fn choose(&mut self) -> Choice {
         let at = self.at;
         self.at = (at % 65536 * 25173 + 13849) % 65536;

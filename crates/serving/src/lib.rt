@@ -4,6 +4,8 @@
 pub mod asked;
 
 ghost use Rattle.std.specs.Prelude.{◌≡◌, ◌≤◌, length};
+ghost use Rattle.server.specs.Session.{Greeting, Shaking};
+ghost use Rattle.server.specs.View.{code};
 ghost use Rattle.serving.specs.Text.{line_of};
 
 use asked::{Head, Serve};
@@ -48,7 +50,9 @@ impl Driven for Served {
 }
 
 impl Served {
-    pub fn new() -> Served {
+    pub fn new() -> Served
+        ensures { result.server ≡ code (Shaking (Greeting 18)) }
+    {
         Served {
             server: Server::new(),
         }

@@ -54,8 +54,8 @@ impl Host {
     // `i` and `b`: a part of what is lent, and its line.
     fn show(&self, lent: Lent) {
         match lent {
-            Lent::Image => lines::text("image"),
-            Lent::Slice => lines::text("slice"),
+            Lent::Image => lines::text(b"image"),
+            Lent::Slice => lines::text(b"slice"),
         }
         lines::hex(self.buffers.lent(self.buffers.sizes.part(lent)));
         answer::close(false);

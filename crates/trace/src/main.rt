@@ -10,6 +10,6 @@ use host::Host;
 fn main() {
     let mut host = Host::new();
     if host.play().is_err() {
-        lines::text("bad script\n");
+        lines::text(b"bad script\n");
     }
 }

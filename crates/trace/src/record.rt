@@ -11,7 +11,8 @@ const STDIN: i32 = 0;
 #[derive(Clone, Copy, Debug, PartialEq, Eq)]
 pub struct BadScript;
 
-// A record's head. The payload comes next. The letter is read once, with the size, where a command is made of both.
+// A record's head. The payload comes next. The letter is read twice: `Host::store` finds the payload's place by it, and
+// `command::read`, once the payload is there, the command.
 #[derive(Clone, Copy)]
 pub struct Record {
     pub letter: u8,
