@@ -28,12 +28,33 @@ fn sent(flags: u8) {
     say::number(table::wire_flags(flags) as u64);
 }
 
-// What a case answers. Its letter says which call it is, with the numbers x and y and the payload. It stays a letter, as standard input has it: an
-// enum would be read by this same match, and the line has the letter again.
-fn answer(letter: u8, x: u64, y: u64, payload: &[u8]) {
+// A record is cut or too long.
+#[derive(Clone, Copy, Debug, PartialEq, Eq)]
+struct BadRecord;
+
+// A case: its letter says which call it is, with the numbers x and y and the payload. It stays a letter, as standard input has it: an enum would be
+// read by the match of `answer`, and the line has the letter again.
+#[derive(Clone, Copy)]
+struct Case<'a> {
+    letter: u8,
+    x: u64,
+    y: u64,
+    payload: &'a [u8],
+}
+
+// What a case answers.
+fn answer(c: Case) {
+    let Case {
+        letter,
+        x,
+        y,
+        payload,
+    } = c;
     match letter {
-        // a number x in a field of so many bytes at the place y
-        b'2' | b'4' | b'8' => numbers::field(letter, x, y),
+        // a number x, or its low bits, in a field of 2, 4 or 8 bytes at the place y
+        b'2' => numbers::field(y, (x % 0x1_0000) as u16),
+        b'4' => numbers::field(y, (x % 0x1_0000_0000) as u32),
+        b'8' => numbers::field(y, x),
         b'c' => numbers::clamp(x),
         // x and the signed number whose two's complement is y
         b'a' => numbers::add(x, y),
@@ -44,67 +65,66 @@ fn answer(letter: u8, x: u64, y: u64, payload: &[u8]) {
         b't' => judge(x, payload),
         b'w' => sent((x % 256) as u8),
         // a table of x bytes, and a name or another table
-        b'n' | b'd' => names::case(letter, x, payload),
+        b'n' => names::name(x, payload),
+        b'd' => names::tables(x, payload),
         _ => say::letter(b'?'),
     }
 }
 
 // A case's line.
-fn line(letter: u8, x: u64, y: u64, payload: &[u8]) {
-    say::letter(letter);
-    say::number(x);
-    say::number(y);
+fn line(c: Case) {
+    say::letter(c.letter);
+    say::number(c.x);
+    say::number(c.y);
     say::letter(b' ');
-    say::bytes(payload);
+    say::bytes(c.payload);
     say::letter(b':');
-    answer(letter, x, y, payload);
+    answer(c);
     say::letter(b'\n');
 }
 
-// No case comes any more: the input has ended, or a record is cut or too long.
-fn over(cut: bool) -> bool {
-    if cut {
-        say::text(b"bad record\n");
+// Reads a payload of so many bytes to the front of the room.
+fn payload(room: &mut [u8; LONGEST], size: usize) -> Result<&[u8], BadRecord> {
+    let n = size.min(LONGEST);
+    if io::read_full(STDIN, &mut room[..n]) < size {
+        return Err(BadRecord);
     }
-    false
+    Ok(&room[..n])
 }
 
-// Reads a payload of so many bytes, and writes the case's line. Whether a case may come after it.
-fn case(letter: u8, x: u64, y: u64, size: usize, room: &mut [u8]) -> bool {
-    let n = size.min(room.len());
-    if io::read_full(STDIN, &mut room[0..n]) < size {
-        return over(true);
-    }
-    line(letter, x, y, &room[0..n]);
-    true
-}
-
-// A record: a letter (1 byte), x (8), y (8), a size (2) and a payload of so many bytes. Whether a case may come after it.
-fn next(room: &mut [u8; LONGEST]) -> bool {
+// Reads a record: a letter (1 byte), x (8), y (8), a size (2) and a payload of so many bytes. None where the input has ended.
+fn next(room: &mut [u8; LONGEST]) -> Result<Option<Case<'_>>, BadRecord> {
     let mut head = [0u8; 19];
     let got = io::read_full(STDIN, &mut head);
-    if got < 19 {
-        return over(0 < got);
+    if got == 0 {
+        return Ok(None);
     }
-    case(
-        head[0],
-        fields::read::<u64>(&head, 1),
-        fields::read::<u64>(&head, 9),
-        fields::read::<u16>(&head, 17) as usize,
-        room,
-    )
+    if got < 19 {
+        return Err(BadRecord);
+    }
+    let size = fields::read::<u16>(&head, 17) as usize;
+    Ok(Some(Case {
+        letter: head[0],
+        x: fields::read::<u64>(&head, 1),
+        y: fields::read::<u64>(&head, 9),
+        payload: payload(room, size)?,
+    }))
 }
 
 // A proved loop has to end, and nothing says that the input does: it has as many turns as no run uses up.
-fn all(room: &mut [u8; LONGEST]) {
+fn all(room: &mut [u8; LONGEST]) -> Result<(), BadRecord> {
     for _ in 0..u64::MAX {
-        if !next(room) {
-            return;
-        }
+        let Some(c) = next(room)? else {
+            return Ok(());
+        };
+        line(c);
     }
+    Ok(())
 }
 
 fn main() {
     let mut room = [0u8; LONGEST];
-    all(&mut room);
+    if all(&mut room).is_err() {
+        say::text(b"bad record\n");
+    }
 }

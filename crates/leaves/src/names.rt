@@ -48,21 +48,23 @@ fn looked_up(t: &[u8], name: &[u8]) {
     shown(singly(t, name), t);
 }
 
-// A table, and by the letter a name or another table.
-fn of_two(letter: u8, t: &[u8], rest: &[u8]) {
-    if letter == b'n' {
-        looked_up(t, rest);
-    } else {
-        shown(in_both(t, rest), rest);
+// The table of x bytes at the front, and what stands behind it.
+fn cut(x: u64, both: &[u8]) -> Option<(&[u8], &[u8])> {
+    both.split_at_checked(x as usize)
+}
+
+// A table of x bytes, and a name that is looked up in it.
+pub fn name(x: u64, both: &[u8]) {
+    match cut(x, both) {
+        Some((t, name)) => looked_up(t, name),
+        None => say::letter(b'?'),
     }
 }
 
-// The same, the table being the first x bytes.
-pub fn case(letter: u8, x: u64, both: &[u8]) {
-    let at = x as usize;
-    if both.len() < at {
-        say::letter(b'?');
-        return;
+// A table of x bytes, and the table that it changes to inside the name.
+pub fn tables(x: u64, both: &[u8]) {
+    match cut(x, both) {
+        Some((t, u)) => shown(in_both(t, u), u),
+        None => say::letter(b'?'),
     }
-    of_two(letter, &both[0..at], &both[at..]);
 }

@@ -22,21 +22,10 @@ fn written<T: Field>(at: usize, x: T)
     shown(&room, fields::read::<T>(&room, at).wide());
 }
 
-// The number x, or its low bits, in a field of 2, 4 or 8 bytes, which the letter says.
-fn field_at(letter: u8, at: usize, x: u64)
-    requires { at ≤ 4 }
-{
-    match letter {
-        b'2' => written(at, (x % 0x1_0000) as u16),
-        b'4' => written(at, (x % 0x1_0000_0000) as u32),
-        _ => written(at, x),
-    }
-}
-
-// The same, at the place y.
-pub fn field(letter: u8, x: u64, y: u64) {
+// The number x in a field of its width at the place y.
+pub fn field<T: Field>(y: u64, x: T) {
     if y <= 4 {
-        field_at(letter, y as usize, x);
+        written(y as usize, x);
     } else {
         say::letter(b'?');
     }

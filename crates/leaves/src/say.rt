@@ -1,6 +1,6 @@
 // What is written, on standard output.
 
-// Standard output.
+// Standard output. It is written to here: `host`, which has the like, is not below this crate.
 const STDOUT: i32 = 1;
 
 pub fn text(s: &[u8]) {
