@@ -1,28 +1,24 @@
 // A client on standard input and output: a call is driven until it is closed.
-ghost use Rattle.std.specs.Prelude.{◌≤◌};
 ghost use Rattle.ask.specs.Talk.{Steps};
 
 use client::state::{Client, Outcome};
 use client::{Called, Stepped};
-use std::io::{Read, Stdin};
+use host::input::Input;
+use std::io::Stdin;
 
 const STDOUT: i32 = 1;
 
 const PIECE: usize = 262144;
 
-// The client, how its last call stands, room for what it gives, and an input buffer. The bytes from `at` to `have` are not taken yet.
+// The client, how its last call stands, what was read and not taken yet, and room for what it gives.
 // A `Vec` in place of an array could fail for want of memory.
 #[derive(Drop)]
 pub struct Talk {
     pub client: Client,
     pub outcome: Outcome,
     stdin: Stdin,
+    input: Input,
     room: [u8; PIECE],
-    input: [u8; PIECE],
-    at: usize,
-    have: usize,
-    ghost order: { at ≤ have },
-    ghost fits: { have ≤ 262144 },
 }
 
 // The client's step.
@@ -38,10 +34,8 @@ impl Talk {
             client: Client::new(),
             outcome: Outcome::Open,
             stdin,
+            input: Input::new(),
             room: [0u8; PIECE],
-            input: [0u8; PIECE],
-            at: 0,
-            have: 0,
         }
     }
 
@@ -52,12 +46,8 @@ impl Talk {
 
     // Reads what is there; at its end, the client is told so.
     fn read(&mut self) {
-        match self.stdin.read(&mut self.input) {
-            Ok(0) | Err(_) => self.called(self.client.end_of_input()),
-            Ok(n) => {
-                self.at = 0;
-                self.have = n;
-            }
+        if matches!(self.input.read(&mut self.stdin), Ok(0) | Err(_)) {
+            self.called(self.client.end_of_input());
         }
     }
 
@@ -65,18 +55,16 @@ impl Talk {
     fn turn(&mut self, lent: &mut [u8]) {
         let Talk {
             client,
-            room,
             input,
-            at,
-            have,
+            room,
             ..
         } = self;
-        let s = step(*client, &input[*at..*have], room, lent);
+        let s = step(*client, input.rest(), room, lent);
         io::write_all(STDOUT, &room[..s.given]);
         self.client = s.state;
         self.outcome = s.outcome;
-        self.at += s.taken;
-        if self.is_open() && self.at == self.have && s.given == 0 {
+        self.input.take(s.taken);
+        if self.is_open() && self.input.rest().is_empty() && s.given == 0 {
             self.read();
         }
     }

@@ -4,5 +4,6 @@
 pub mod args;
 pub mod faults;
 pub mod files;
+pub mod input;
 pub mod text;
 pub mod words;

@@ -1,7 +1,7 @@
 // Lines of text for programs: words between blanks, decimal numbers, names that may be quoted; `#` starts a comment.
 // Each function takes a line, or what is left of one, and gives what is at its front and what is behind that.
 ghost use Rattle.std.specs.Prelude.{◌≡◌, ◌+◌, ◌≤◌, ◌++◌, length, IfSome, IfOk};
-ghost use Rattle.host.specs.Text.{Behind};
+ghost use Rattle.host.specs.Text.{Behind, ends};
 
 use std::fmt;
 
@@ -60,7 +60,9 @@ pub fn word(line: &[u8]) -> (&[u8], &[u8])
 }
 
 // Whether nothing but a comment is left.
-pub fn is_end(line: &[u8]) -> bool {
+pub fn is_end(line: &[u8]) -> bool
+    ensures { result ≡ ends line.now }
+{
     matches!(line, [] | [b'#', ..])
 }
 

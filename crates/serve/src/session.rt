@@ -1,12 +1,13 @@
 // One session on standard input and output. Each turn does one thing: it sends what is owed, or takes input that is at hand, or reads more.
-ghost use Rattle.std.specs.Prelude.{◌≡◌, ◌+◌, ◌≤◌, length};
+ghost use Rattle.std.specs.Prelude.{◌+◌, ◌≤◌, length};
 
 use crate::stepping;
 use crate::stepping::Part;
 use host::files;
+use host::input::Input;
 use server::state::{Outcome, Server};
 use std::fs::File;
-use std::io::{Read, Stdin};
+use std::io::Stdin;
 
 const STDOUT: i32 = 1;
 
@@ -35,16 +36,6 @@ pub struct Image<'a> {
     bytes: &'a mut [u8],
     dirty: bool,
     ghost fits: { length bytes.now ≤ 4194304 },
-}
-
-// What was read, and which of it was not taken.
-#[derive(Drop)]
-struct Input {
-    bytes: [u8; PIECE],
-    at: usize,
-    have: usize,
-    ghost order: { at ≤ have },
-    ghost fits: { have ≤ 262144 },
 }
 
 #[derive(Drop)]
@@ -97,14 +88,6 @@ impl<'a> Image<'a> {
     }
 }
 
-impl Input {
-    fn rest(&self) -> &[u8]
-        ensures { self.now.at + length result.now ≡ self.now.have }
-    {
-        &self.bytes[self.at..self.have]
-    }
-}
-
 impl<'a> Session<'a> {
     pub fn new(stdin: Stdin, table: &'a [u8], image: Image<'a>) -> Session<'a> {
         Session {
@@ -112,26 +95,17 @@ impl<'a> Session<'a> {
             table,
             image,
             stdin,
-            input: Input {
-                bytes: [0u8; PIECE],
-                at: 0,
-                have: 0,
-            },
+            input: Input::new(),
             room: [0u8; PIECE],
         }
     }
 
     // Reads what is there.
     fn read(&mut self) -> Result<(), Stop> {
-        let n = self
-            .stdin
-            .read(&mut self.input.bytes)
-            .map_err(|_| Stop::NotRead)?;
+        let n = self.input.read(&mut self.stdin).map_err(|_| Stop::NotRead)?;
         if n == 0 {
             return going_on(self.server.end_of_input().outcome);
         }
-        self.input.at = 0;
-        self.input.have = n;
         Ok(())
     }
 
@@ -146,7 +120,7 @@ impl<'a> Session<'a> {
         } = self;
         let t = stepping::take(*server, table, image.bytes, input.rest());
         *server = t.step.state;
-        input.at += t.step.taken;
+        input.take(t.step.taken);
         image.keep(t.part)
     }
 
@@ -176,10 +150,10 @@ impl<'a> Session<'a> {
             return self.send(g.given);
         }
         going_on(g.outcome)?;
-        if self.input.at < self.input.have {
-            self.take()
-        } else {
+        if self.input.rest().is_empty() {
             self.read()
+        } else {
+            self.take()
         }
     }
 
