@@ -3,6 +3,8 @@
 // It writes how many bytes moved. It has no clock: bench/run.py times it.
 #![tactic(auto)]
 
+ghost use Rattle.std.specs.Prelude.{◌≤◌};
+
 use server::state::Server;
 use wire::fields;
 
@@ -21,11 +23,53 @@ const INPUT: usize = 65564;
 
 const ROOM: usize = 65552;
 
+fn move_pieces(image: &mut [u8], input: &[u8; INPUT], room: &mut [u8; ROOM]) {
+    for piece in image.chunks_exact_mut(PIECE) {
+        piece.copy_from_slice(&input[28..]);
+        room[16..].copy_from_slice(piece);
+    }
+}
+
+// What bytes are moved between. The image is lent: a program's stack has no room for it twice.
+#[derive(Drop)]
+struct Arrays<'a> {
+    image: &'a mut [u8; IMAGE],
+    input: [u8; INPUT],
+    room: [u8; ROOM],
+}
+
 // Where a run stands, and the bytes taken and given so far.
 #[derive(Clone, Copy)]
 struct Run {
     server: Server,
     moved: u64,
+}
+
+impl Arrays<'_> {
+    // The request's fixed fields: magic and length.
+    fn prepare(&mut self) {
+        fields::write(&mut self.input, 0, 0x25609513u32);
+        fields::write(&mut self.input, 24, 65536u32);
+    }
+
+    // The request's type and offset.
+    fn aim(&mut self, kind: u16, offset: usize) {
+        fields::write(&mut self.input, 6, kind);
+        fields::write(&mut self.input, 16, offset as u64);
+    }
+
+    // The same bytes to and from the same places, without a server.
+    fn copies(&mut self) {
+        let Arrays { image, input, room } = self;
+        move_pieces(&mut image[..], input, room);
+    }
+
+    // Standard input is at its end, so nothing is read here; but a compiler cannot know that, and leaves no round out.
+    fn read(&mut self) {
+        io::read_full(STDIN, self.image);
+        io::read_full(STDIN, &mut self.input);
+        io::read_full(STDIN, &mut self.room);
+    }
 }
 
 impl Run {
@@ -40,7 +84,7 @@ impl Run {
     }
 
     // The handshake: one export, the whole image. It does not count.
-    fn open(image: &mut [u8], room: &mut [u8]) -> Run {
+    fn open(a: &mut Arrays) -> Run {
         let table =
             b"\x01\x00\x12\x00\x00\x00\x00\x00\x00\x00\x00\x00\x00\x00\x00\x00\x70\x00\x00\x00a";
         let client = b"\x00\x00\x00\x03IHAVEOPT\x00\x00\x00\x01\x00\x00\x00\x01a";
@@ -48,69 +92,44 @@ impl Run {
             server: Server::new(),
             moved: 0,
         };
-        run.step(table, image, client, room);
+        let Arrays { image, room, .. } = a;
+        run.step(table, &mut image[..], client, room);
         Run { moved: 0, ..run }
     }
 
-    // A WRITE of the input's payload at this offset, and a READ of as much.
-    fn write_and_read(
-        &mut self,
-        offset: usize,
-        image: &mut [u8],
-        input: &mut [u8; INPUT],
-        room: &mut [u8],
-    ) {
-        aim(input, 1, offset);
-        self.step(b"", image, input, room);
-        aim(input, 0, offset);
-        self.step(b"", image, &input[..28], room);
+    // A step on so many bytes of the input.
+    fn send(&mut self, size: usize, a: &mut Arrays)
+        requires { size ≤ 65564 }
+    {
+        let Arrays { image, input, room } = a;
+        self.step(b"", &mut image[..], &input[..size], room);
     }
 
-    fn requests(&mut self, image: &mut [u8], input: &mut [u8; INPUT], room: &mut [u8]) {
+    // A WRITE of the input's payload at this offset, and a READ of as much.
+    fn write_and_read(&mut self, offset: usize, a: &mut Arrays) {
+        a.aim(1, offset);
+        self.send(INPUT, a);
+        a.aim(0, offset);
+        self.send(28, a);
+    }
+
+    fn requests(&mut self, a: &mut Arrays) {
         for k in 0..PIECES {
-            self.write_and_read(k * PIECE, image, input, room);
+            self.write_and_read(k * PIECE, a);
         }
     }
 }
 
-// The request's type and offset.
-fn aim(input: &mut [u8; INPUT], kind: u16, offset: usize) {
-    fields::write(input, 6, kind);
-    fields::write(input, 16, offset as u64);
-}
-
-// The same bytes to and from the same places.
-fn copies(image: &mut [u8; IMAGE], input: &[u8; INPUT], room: &mut [u8; ROOM]) {
-    for piece in image.chunks_exact_mut(PIECE) {
-        piece.copy_from_slice(&input[28..]);
-        room[16..].copy_from_slice(piece);
-    }
-}
-
-// The request's fixed fields: magic and length.
-fn prepare(input: &mut [u8; INPUT]) {
-    fields::write(input, 0, 0x25609513u32);
-    fields::write(input, 24, 65536u32);
-}
-
-// So many rounds of requests, or of copies. Standard input is at its end, so nothing is read there; but a compiler cannot know that, and leaves no
-// round out.
-fn rounds(
-    requested: bool,
-    n: u32,
-    image: &mut [u8; IMAGE],
-    input: &mut [u8; INPUT],
-    room: &mut [u8; ROOM],
-) -> u64 {
-    let mut run = Run::open(image, room);
+// So many rounds of requests, or of copies. A flag says which: as a closure the requests would hold the run, whose count is the
+// answer.
+fn rounds(requested: bool, n: u32, a: &mut Arrays) -> u64 {
+    let mut run = Run::open(a);
     for _ in 0..n {
-        io::read_full(STDIN, image);
-        io::read_full(STDIN, input);
-        io::read_full(STDIN, room);
+        a.read();
         if requested {
-            run.requests(image, input, room);
+            run.requests(a);
         } else {
-            copies(image, input, room);
+            a.copies();
         }
     }
     run.moved
@@ -127,12 +146,15 @@ fn show(moved: u64, room: &[u8; ROOM]) {
 fn bench(image: &mut [u8; IMAGE]) {
     let mut order = [0u8; 5];
     io::read_full(STDIN, &mut order);
-    let mut input = [7u8; INPUT];
-    let mut room = [0u8; ROOM];
-    prepare(&mut input);
+    let mut a = Arrays {
+        image,
+        input: [7u8; INPUT],
+        room: [0u8; ROOM],
+    };
+    a.prepare();
     let n = fields::read::<u32>(&order, 1);
-    let moved = rounds(order[0] == b'r', n, image, &mut input, &mut room);
-    show(moved, &room);
+    let moved = rounds(order[0] == b'r', n, &mut a);
+    show(moved, &a.room);
 }
 
 fn main() {
