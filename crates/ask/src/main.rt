@@ -26,8 +26,8 @@ fn obey_line(session: &mut Session, k: u64, line: &[u8]) {
     if text::is_end(line) {
         return;
     }
-    tell(format_args!("ask: line {k}: "));
     let mut buffer = io::buffer();
+    tell(format_args!("ask: line {k}: "));
     match orders::parse(line, &mut buffer) {
         Some(order) => session.obey(order),
         None => say(
@@ -38,7 +38,8 @@ fn obey_line(session: &mut Session, k: u64, line: &[u8]) {
 
 // The handshake, and the lines until the session is over.
 fn connect(rt: &HostRuntime, name: &mut [u8], script: &[u8], buffer: &mut [u8]) {
-    let mut session = Session::open(rt, name, buffer);
+    let mut session = Session::new(rt, buffer);
+    session.open(name);
     for (k, line) in (1u64..).zip(script.split(|b| *b == b'\n')) {
         if session.is_over() {
             break;

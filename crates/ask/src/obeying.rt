@@ -32,13 +32,19 @@ fn load(rt: &HostRuntime, name: &[u8], buffer: &mut [u8]) -> Result<usize>
 }
 
 impl<'r, 'b> Session<'r, 'b> {
-    // The handshake.
-    pub fn open(rt: &'r HostRuntime, name: &mut [u8], buffer: &'b mut [u8]) -> Session<'r, 'b> {
-        let mut talk = Talk::new(rt.stdin());
-        let c = talk.client.handshake(name);
-        talk.drive(c, name);
-        tell(format_args!("ask: {}\n", Told(talk.outcome)));
-        Session { rt, talk, buffer }
+    pub fn new(rt: &'r HostRuntime, buffer: &'b mut [u8]) -> Session<'r, 'b> {
+        Session {
+            rt,
+            talk: Talk::new(rt.stdin()),
+            buffer,
+        }
+    }
+
+    // The handshake. The session stands where it stays: a talk is half a megabyte, which is not moved.
+    pub fn open(&mut self, name: &mut [u8]) {
+        let c = self.talk.client.handshake(name);
+        self.talk.drive(c, name);
+        tell(format_args!("ask: {}\n", Told(self.talk.outcome)));
     }
 
     // Whether no call can be made any more.

@@ -1,4 +1,7 @@
 // A line of a script: one call.
+ghost use Rattle.std.specs.Prelude.{◌≤◌, length, IfSome};
+ghost use Rattle.ask.specs.Orders.{OrderIn};
+
 use client::state::SeekFrom;
 use host::text;
 
@@ -31,13 +34,17 @@ fn last_signed(line: &[u8]) -> Option<i64> {
 }
 
 // The file's name with which the line ends, put into the buffer.
-fn last_name<'a>(line: &[u8], buffer: &'a mut [u8]) -> Option<&'a [u8]> {
+fn last_name<'a>(line: &[u8], buffer: &'a mut [u8]) -> Option<&'a [u8]>
+    ensures { IfSome result (λ name. length name.now ≤ length buffer.old) }
+{
     let (name, rest) = text::name(text::skip(line), buffer).ok()?;
     if is_last(rest) { Some(name) } else { None }
 }
 
 // `read N FILE`
-fn read<'a>(line: &[u8], buffer: &'a mut [u8]) -> Option<Order<'a>> {
+fn read<'a>(line: &[u8], buffer: &'a mut [u8]) -> Option<Order<'a>>
+    ensures { IfSome result (OrderIn (length buffer.old)) }
+{
     let (n, rest) = text::number(text::skip(line))?;
     let file = last_name(rest, buffer)?;
     Some(Order::Read { n, file })
@@ -54,7 +61,9 @@ fn seek(line: &[u8]) -> Option<SeekFrom> {
 }
 
 // The order that the line's first word begins. A file's name is put into the buffer.
-pub fn parse<'a>(line: &[u8], buffer: &'a mut [u8]) -> Option<Order<'a>> {
+pub fn parse<'a>(line: &[u8], buffer: &'a mut [u8]) -> Option<Order<'a>>
+    ensures { IfSome result (OrderIn (length buffer.old)) }
+{
     let (word, rest) = text::word(line);
     Some(match word {
         b"read" => return read(rest, buffer),

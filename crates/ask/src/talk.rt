@@ -1,4 +1,5 @@
 // A client on standard input and output: a call is driven until it is closed.
+ghost use Rattle.std.specs.Prelude.{◌≡◌};
 ghost use Rattle.ask.specs.Talk.{Steps};
 
 use client::state::{Client, Outcome};
@@ -29,7 +30,9 @@ fn step(c: Client, input: &[u8], room: &mut [u8], lent: &mut [u8]) -> Stepped
 }
 
 impl Talk {
-    pub fn new(stdin: Stdin) -> Talk {
+    pub fn new(stdin: Stdin) -> Talk
+        ensures { result.input.have ≡ 0 }
+    {
         Talk {
             client: Client::new(),
             outcome: Outcome::Open,
@@ -39,7 +42,10 @@ impl Talk {
         }
     }
 
-    fn called(&mut self, c: Called) {
+    // After a call: what was read and not taken yet stays.
+    fn called(&mut self, c: Called)
+        ensures { self.new.input ≡ self.old.input }
+    {
         self.client = c.state;
         self.outcome = c.outcome;
     }

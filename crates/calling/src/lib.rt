@@ -104,7 +104,7 @@ fn make(c: Client, k: Made, slice: &[u8]) -> Called {
 // The client that a script drives.
 #[derive(Clone, Copy)]
 pub struct Calling {
-    client: Client,
+    pub client: Client,
 }
 
 impl Driven for Calling {

@@ -45,6 +45,7 @@ use ending::Ending;
 use machine::ends;
 use refusal::Refusal;
 use state::{Call, Client, Device, Handshake, Outcome, Phase, Progress, SeekFrom, Value};
+use step::Stepping;
 
 pub type Called = ends::Answered<Client, Outcome>;
 
@@ -284,12 +285,13 @@ impl Client {
                 outcome: Outcome::Refused(why.number()),
             };
         }
-        let r = ends::advance(self, input, room, &[], lent);
+        let r = ends::advance(Stepping { client: self }, input, room, &[], lent);
+        let client = r.state.client;
         Stepped {
-            state: step::canonical(r.state),
+            state: step::canonical(client),
             taken: r.taken,
             given: r.given,
-            outcome: step::outcome_of(r.state.phase),
+            outcome: step::outcome_of(client.phase),
         }
     }
 }

@@ -1,8 +1,8 @@
 // A step: it takes and gives, phase by phase, as far as the input and the room go.
-ghost use Rattle.std.specs.Prelude.{◌≡◌, List, ℕ, ◌≤◌};
+ghost use Rattle.std.specs.Prelude.{◌≡◌, List, ℕ, ◌≤◌, length};
 ghost use Rattle.client.specs.Session.{State, turn};
 ghost use Rattle.client.specs.View.{view, view_of, code, used};
-ghost use Rattle.client.specs.Inner.{Good};
+ghost use Rattle.client.specs.Inner.{Good, Absorbed, Emitted};
 ghost use Rattle.client.specs.Contract.{after, outcome_of};
 
 use crate::handshake::Shake;
@@ -11,37 +11,65 @@ use crate::state::{Client, Outcome, Phase};
 use crate::transmission::Exchange;
 use machine::ends::{End, Gave, Took};
 
-impl End for Client {
+// Takes what the phase takes of the input.
+fn absorb(s: Client, input: &[u8], lent: &mut [u8]) -> Took<Client>
+    requires { Good (length lent.old) (view s) }
+    ensures { Absorbed (view s) lent.old input.now result lent.new }
+{
+    // no part needs it: but a step where nothing comes is often made, and then nothing is gathered and judged again
+    if input.is_empty() {
+        return Took::none(s);
+    }
+    let head = s.head;
+    // a match on the phase: a function that a phase held could not be handed in by a host
+    match s.phase {
+        Phase::Shaking(name, h) => Shake { head, name }.absorb(h, input),
+        Phase::Calling(device, call, p) => Exchange { head, device, call }.absorb(p, input, lent),
+        _ => Took::none(s),
+    }
+}
+
+// Gives what the phase owes into the room.
+fn emit(s: Client, room: &mut [u8], lent: &[u8]) -> Gave<Client>
+    requires { Good (length lent.now) (view s) }
+    ensures { Emitted (view s) lent.now room.old result room.new }
+{
+    let head = s.head;
+    match s.phase {
+        Phase::Shaking(name, h) => Shake { head, name }.emit(h, lent, room),
+        Phase::Calling(device, call, p) => Exchange { head, device, call }.emit(p, lent, room),
+        _ => Gave::none(s),
+    }
+}
+
+// A client within a step. No other crate can name it: so none can make it go by a phase alone, past what a step refuses.
+#[derive(Clone, Copy)]
+pub struct Stepping {
+    pub client: Client,
+}
+
+impl End for Stepping {
     ghost Place = { State };
 
-    ghost view = { view };
+    ghost view = { λ s. view s.client };
 
     ghost machine = { λ _. turn };
 
     ghost Good = { λ _. Good };
 
-    // Takes what the phase takes of the input.
-    fn absorb(self, input: &[u8], _still: &[u8], lent: &mut [u8]) -> Took<Client> {
-        let head = self.head;
-        // a match on the phase: a function that a phase held could not be handed in by a host
-        match self.phase {
-            Phase::Shaking(name, h) => Shake { head, name }.absorb(h, input),
-            Phase::Calling(device, call, p) => {
-                Exchange { head, device, call }.absorb(p, input, lent)
-            }
-            _ => Took::none(self),
+    fn absorb(self, input: &[u8], _still: &[u8], lent: &mut [u8]) -> Took<Stepping> {
+        let took = absorb(self.client, input, lent);
+        Took {
+            state: Stepping { client: took.state },
+            taken: took.taken,
         }
     }
 
-    // Gives what the phase owes into the room.
-    fn emit(self, room: &mut [u8], _still: &[u8], lent: &[u8]) -> Gave<Client> {
-        let head = self.head;
-        match self.phase {
-            Phase::Shaking(name, h) => Shake { head, name }.emit(h, lent, room),
-            Phase::Calling(device, call, p) => {
-                Exchange { head, device, call }.emit(p, lent, room)
-            }
-            _ => Gave::none(self),
+    fn emit(self, room: &mut [u8], _still: &[u8], lent: &[u8]) -> Gave<Stepping> {
+        let gave = emit(self.client, room, lent);
+        Gave {
+            state: Stepping { client: gave.state },
+            given: gave.given,
         }
     }
 }

@@ -1,5 +1,6 @@
 // Fields of 2, 4 and 8 bytes, written to a room of 12 bytes EE and read from it; the arithmetic of the client's calls.
-ghost use Rattle.std.specs.Prelude.{◌+◌, ◌≤◌};
+ghost use Rattle.std.specs.Prelude.{◌≡◌, ◌+◌, ◌≤◌};
+ghost use Rattle.wire.specs.Fields.{field};
 
 use crate::say;
 use wire::fields::Field;
@@ -14,12 +15,20 @@ fn shown(room: &[u8; 12], back: u64) {
     say::number(back);
 }
 
+// The field that stands at the place.
+fn read<T: Field>(room: &[u8; 12], at: usize) -> T
+    requires { at + T.BYTES ≤ 12 }
+    ensures { T.value result ≡ field room.now at T.BYTES }
+{
+    fields::read(room, at)
+}
+
 fn written<T: Field>(at: usize, x: T)
     requires { at + T.BYTES ≤ 12 }
 {
     let mut room = [0xEEu8; 12];
     fields::write(&mut room, at, x);
-    shown(&room, fields::read::<T>(&room, at).wide());
+    shown(&room, read::<T>(&room, at).wide());
 }
 
 // The number x in a field of its width at the place y.

@@ -1,1 +1,2 @@
 mod Spelled
+mod Standing

@@ -1,6 +1,6 @@
 // The buffers around a step. The room is AA before the call, so that what the call wrote shows; what is lent is copied, so that a refusal can be
 // seen to leave it.
-ghost use Rattle.std.specs.Prelude.{◌≡◌, ◌==◌, ◌≤◌, length, take, drop};
+ghost use Rattle.std.specs.Prelude.{◌≡◌, ◌==◌, ◌≤◌, length, replicate, take, drop};
 ghost use Rattle.lines.specs.Marks.{unchanged};
 
 use crate::answer;
@@ -11,7 +11,7 @@ pub const STILL: usize = 786432;
 
 const LENT: usize = 524288;
 
-const ROOM: usize = 262144;
+pub const ROOM: usize = 262144;
 
 // What a call answered, and how many bytes it took and gave.
 #[derive(Clone, Copy)]
@@ -32,11 +32,31 @@ pub struct Buffers {
     pub sizes: Sizes,
 }
 
+// Makes every byte AA.
+pub fn fill(room: &mut [u8])
+    ensures { room.new ≡ replicate (length room.old) 170 }
+{
+    room.fill(0xAA);
+}
+
 // Whether every byte is AA.
-fn unchanged(room: &[u8]) -> bool
+pub fn unchanged(room: &[u8]) -> bool
     ensures { result ≡ unchanged room.now }
 {
     room.iter().all(|&b| b == 0xAA)
+}
+
+// Fills the front of a room anew.
+pub fn clean(n: Size, room: &mut [u8; ROOM]) {
+    fill(&mut room[..n.bytes]);
+}
+
+// The line of a call that was lent the first n bytes of this room. `kept`: what else had to stay as it was did.
+pub fn show(m: Moved, kept: bool, n: Size, room: &[u8; ROOM])
+    requires { m.given ≤ n.bytes }
+{
+    let changed = !unchanged(&room[m.given..n.bytes]) || !kept;
+    answer::line(m.answer, m.taken, &room[..m.given], changed);
 }
 
 impl Buffers {
@@ -56,16 +76,16 @@ impl Buffers {
         &self.lent[p.at..p.at + p.size.bytes]
     }
 
-    // The front of the room, filled anew.
-    pub fn clean(&mut self, n: Size) {
-        self.room[..n.bytes].fill(0xAA);
-    }
-
     // Copies what is lent, and fills the room: before a step.
     pub fn prepare(&mut self, p: Part, n: Size) {
-        let Buffers { still, lent, .. } = self;
+        let Buffers {
+            still,
+            lent,
+            room,
+            ..
+        } = self;
         still[THIRD..THIRD + p.size.bytes].copy_from_slice(&lent[p.at..p.at + p.size.bytes]);
-        self.clean(n);
+        clean(n, room);
     }
 
     // Whether what is lent is as it was.
@@ -73,20 +93,12 @@ impl Buffers {
         self.lent(p) == &self.still[THIRD..THIRD + p.size.bytes]
     }
 
-    // The line of a call that was lent the first n bytes of the room. `kept`: what else had to stay as it was did.
-    pub fn show(&self, m: Moved, kept: bool, n: Size)
-        requires { m.given ≤ n.bytes }
-    {
-        let changed = !unchanged(&self.room[m.given..n.bytes]) || !kept;
-        answer::line(m.answer, m.taken, &self.room[..m.given], changed);
-    }
-
     // The line of a step on this part, with the first n bytes of the room. What is lent has to be as it was where the step was refused.
     pub fn show_step(&self, m: Moved, p: Part, n: Size)
         requires { m.given ≤ n.bytes }
     {
         let kept = !m.answer.is_refusal() || self.as_copied(p);
-        self.show(m, kept, n);
+        show(m, kept, n, &self.room);
     }
 }
 

@@ -26,7 +26,7 @@ pub fn number(n: u64) {
 
 // A space, and 1 or 0.
 pub fn bit(b: bool) {
-    number(u64::from(b));
+    text(if b { b" 1" } else { b" 0" });
 }
 
 // A hex digit. `hex_of` is promised of what is written, and the kit's print_hex writes a byte at a time.

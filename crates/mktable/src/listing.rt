@@ -64,6 +64,6 @@ pub fn list(table: &[u8], image: usize) {
                 write_record(e);
             }
         }
-        Err(fault) => faults::say_bad_table("mktable", fault, table, image),
+        Err(fault) => faults::say_bad_table("mktable", fault.number(), table, image),
     }
 }

@@ -1,5 +1,5 @@
 // From lines of text to a table.
-ghost use Rattle.std.specs.Prelude.{◌≡◌, ◌≤◌, length};
+ghost use Rattle.std.specs.Prelude.{◌≡◌, ◌+◌, ◌≤◌, length, IfOk};
 ghost use Rattle.wire.specs.Table.{fault};
 ghost use Rattle.mktable.specs.Making.{ParsedIn};
 
@@ -24,7 +24,7 @@ impl fmt::Display for Wrong {
     fn fmt<W: fmt::Write>(&self, f: &mut fmt::Formatter<W>) -> fmt::Result {
         match self {
             Wrong::Mistake(m) => write!(f, "{m}"),
-            Wrong::Fault(fault) => f.write_str(faults::text(*fault)),
+            Wrong::Fault(fault) => f.write_str(faults::text(fault.number())),
         }
     }
 }
@@ -114,6 +114,7 @@ impl<'a> Draft<'a> {
     // Adds a record if the table stays sound.
     fn add(&mut self, r: Entry<'_>) -> Result<(), Fault>
         requires { length r.name.now ≤ 4096 }
+        ensures { IfOk result (λ _. self.new.len ≡ self.old.len + 19 + length r.entry.name.now) }
     {
         let name = r.name;
         if self.buffer.len() - self.len < 19 + name.len() {
@@ -142,7 +143,7 @@ impl<'a> Draft<'a> {
         let image = self.image;
         match table::check(table, image) {
             Ok(()) => write_table(table, image),
-            Err(fault) => faults::say_bad_table("mktable", fault, table, image),
+            Err(fault) => faults::say_bad_table("mktable", fault.number(), table, image),
         }
     }
 }

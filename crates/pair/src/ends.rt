@@ -6,29 +6,30 @@ use client::state::{Client, Outcome};
 use joined::Offer;
 use server::state::Server;
 
-// A wire of so many bytes, how many of them stand on it, and how many were put on it and taken off it.
+// A wire's bytes, how many of them stand on it, and how many were put on it and taken off it. They are lent: with an array inside, each size of it
+// would have moves of its own.
 #[derive(Drop)]
-struct Wire<const N: usize> {
-    bytes: [u8; N],
+struct Wire<'a> {
+    bytes: &'a mut [u8],
     count: usize,
     gave: u64,
     took: u64,
 }
 
 #[derive(Drop)]
-pub struct Ends<const N: usize> {
+pub struct Ends<'u, 'd> {
     client: Client,
     server: Server,
     schedule: Schedule,
     image: [u8; 64],
-    up: Wire<N>,
-    down: Wire<N>,
+    up: Wire<'u>,
+    down: Wire<'d>,
 }
 
-impl<const N: usize> Wire<N> {
-    fn new() -> Wire<N> {
+impl<'a> Wire<'a> {
+    fn new(bytes: &'a mut [u8]) -> Wire<'a> {
         Wire {
-            bytes: [0u8; N],
+            bytes,
             count: 0,
             gave: 0,
             took: 0,
@@ -57,15 +58,15 @@ fn checksum(bytes: &[u8]) -> u64 {
     b * 65536 + a
 }
 
-impl<const N: usize> Ends<N> {
-    pub fn new(order: Order) -> Ends<N> {
+impl<'u, 'd> Ends<'u, 'd> {
+    pub fn new(order: Order, up: &'u mut [u8], down: &'d mut [u8]) -> Ends<'u, 'd> {
         Ends {
             client: Client::new(),
             server: Server::new(),
             schedule: Schedule::new(order),
             image: *b"<before>ASPIRIN HEPARIN INSULIN DIGOXIN <24 bytes stand behind.>",
-            up: Wire::new(),
-            down: Wire::new(),
+            up: Wire::new(up),
+            down: Wire::new(down),
         }
     }
 
@@ -85,7 +86,7 @@ impl<const N: usize> Ends<N> {
             down,
             ..
         } = self;
-        let r = joined::client_move(*client, o, lent, &mut up.bytes, &mut down.bytes);
+        let r = joined::client_move(*client, o, lent, up.bytes, down.bytes);
         *client = r.step.state;
         up.put(r.step.given, r.ups);
         down.take(r.step.taken, r.downs);
@@ -103,7 +104,7 @@ impl<const N: usize> Ends<N> {
             down,
             ..
         } = self;
-        let r = joined::server_move(*server, o, table, image, &mut up.bytes, &mut down.bytes);
+        let r = joined::server_move(*server, o, table, image, up.bytes, down.bytes);
         *server = r.step.state;
         up.take(r.step.taken, r.ups);
         down.put(r.step.given, r.downs);
@@ -149,9 +150,9 @@ impl<const N: usize> Ends<N> {
         print::tell("image [");
         print::bytes(&self.image);
         print::tell(format_args!("] {}\n", checksum(&self.image)));
-        let Wire { gave, took, .. } = self.up;
+        let Wire { gave, took, .. } = &self.up;
         print::tell(format_args!("up {gave} {took} "));
-        let Wire { gave, took, .. } = self.down;
+        let Wire { gave, took, .. } = &self.down;
         print::tell(format_args!("down {gave} {took}\n"));
     }
 }

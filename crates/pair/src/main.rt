@@ -17,7 +17,9 @@ fn run<const N: usize>(order: Order)
     requires { N ≤ 4096 }
 {
     print::tell(format_args!("wires of {N}, order {}\n", order as u8));
-    let mut ends = Ends::<N>::new(order);
+    let mut up = [0u8; N];
+    let mut down = [0u8; N];
+    let mut ends = Ends::new(order, &mut up, &mut down);
     for k in script::calls() {
         ends.call(k);
     }

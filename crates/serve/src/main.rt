@@ -89,7 +89,7 @@ fn serve(rt: &HostRuntime, file: &File, table: &[u8], image: &mut [u8])
     requires { length image.old ≤ 4194304 }
 {
     if let Err(fault) = table::check(table, image.len()) {
-        faults::say_bad_table("serve", fault, table, image.len());
+        faults::say_bad_table("serve", fault.number(), table, image.len());
         return;
     }
     let mut session = Session::new(rt.stdin(), table, Image::new(file, image));

@@ -1,5 +1,5 @@
 // One session on standard input and output. Each turn does one thing: it sends what is owed, or takes input that is at hand, or reads more.
-ghost use Rattle.std.specs.Prelude.{◌+◌, ◌≤◌, length};
+ghost use Rattle.std.specs.Prelude.{◌≡◌, ◌+◌, ◌≤◌, length};
 
 use crate::stepping;
 use crate::stepping::Part;
@@ -89,7 +89,9 @@ impl<'a> Image<'a> {
 }
 
 impl<'a> Session<'a> {
-    pub fn new(stdin: Stdin, table: &'a [u8], image: Image<'a>) -> Session<'a> {
+    pub fn new(stdin: Stdin, table: &'a [u8], image: Image<'a>) -> Session<'a>
+        ensures { result.input.have ≡ 0 }
+    {
         Session {
             server: Server::new(),
             table,
@@ -100,11 +102,16 @@ impl<'a> Session<'a> {
         }
     }
 
+    // The end of the input.
+    fn close(&self) -> Result<(), Stop> {
+        going_on(self.server.end_of_input().outcome)
+    }
+
     // Reads what is there.
     fn read(&mut self) -> Result<(), Stop> {
         let n = self.input.read(&mut self.stdin).map_err(|_| Stop::NotRead)?;
         if n == 0 {
-            return going_on(self.server.end_of_input().outcome);
+            return self.close();
         }
         Ok(())
     }
@@ -124,9 +131,10 @@ impl<'a> Session<'a> {
         image.keep(t.part)
     }
 
-    // Sends what a step gave. What was stored before it has reached the file's device by then.
+    // Sends what a step gave. What was stored before it has reached the file's device by then; what was read and not taken yet stays.
     fn send(&mut self, n: usize) -> Result<(), Stop>
         requires { n ≤ 262144 }
+        ensures { self.new.input ≡ self.old.input }
     {
         self.image.sync()?;
         if io::write_all(STDOUT, &self.room[..n]) {

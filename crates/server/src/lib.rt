@@ -22,6 +22,7 @@ use ending::Ending;
 use machine::ends;
 use refusal::Refusal;
 use state::{Handshake, Outcome, Phase, Server};
+use step::Stepping;
 
 pub type Stepped = ends::Stepped<Server, Outcome>;
 
@@ -75,8 +76,8 @@ impl Server {
                 outcome: Outcome::Refused(why.number()),
             };
         }
-        let r = ends::advance(self, input, room, table, image);
-        let state = step::canonical(r.state);
+        let r = ends::advance(Stepping { server: self }, input, room, table, image);
+        let state = step::canonical(r.state.server);
         let outcome = step::outcome_of(state);
         Stepped {
             state,

@@ -10,7 +10,7 @@ ghost use Rattle.serving.specs.Text.{line_of};
 
 use asked::{Head, Serve};
 use lines::answer::Answer;
-use lines::buffers::{Buffers, Driven, Moved};
+use lines::buffers::{Buffers, Driven, Moved, ROOM};
 use lines::places::Lent;
 use lines::{answer, buffers};
 use server::oldstyle;
@@ -19,7 +19,7 @@ use server::state::{Outcome, Server};
 // The server that a script drives.
 #[derive(Clone, Copy)]
 pub struct Served {
-    server: Server,
+    pub server: Server,
 }
 
 // What a line says of an outcome. No `From`: that stands beside one of its two types, and both are of crates below.
@@ -93,8 +93,8 @@ fn header(size: u64, flags: u32, room: &mut [u8]) -> Moved
 }
 
 // The old-style header, and its line.
-pub fn head(k: Head, buffers: &mut Buffers) {
-    buffers.clean(k.room);
-    let m = header(k.size, k.flags, &mut buffers.room[..k.room.bytes]);
-    buffers.show(m, true, k.room);
+pub fn head(k: Head, room: &mut [u8; ROOM]) {
+    buffers::clean(k.room, room);
+    let m = header(k.size, k.flags, &mut room[..k.room.bytes]);
+    buffers::show(m, true, k.room, room);
 }

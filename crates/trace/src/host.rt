@@ -67,7 +67,7 @@ impl Host {
             Command::Change(k, n) => self.change(k, n),
             Command::Serve(k) => self.server.obey(k, &mut self.buffers),
             Command::Call(k) => self.client.obey(k, &mut self.buffers),
-            Command::Head(k) => serving::head(k, &mut self.buffers),
+            Command::Head(k) => serving::head(k, &mut self.buffers.room),
             Command::Show(lent) => self.show(lent),
         }
     }

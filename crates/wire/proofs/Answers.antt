@@ -2,15 +2,23 @@
 --   same_chosen    of `lowest`
 --   same_sum       of `checked_add_i64`
 --   same_checked   of `check`
+--   same_front     of `front`: what it holds of the table is the same bytes
+--   same_walk      of `Records::of`, likewise
 -- Of `started` and `narrowed` it is `one_number` of Words.antt; the other public functions answer an equation.
 use Prim.Native.Nat.{ℕ}
 use mathlib.Core.Path.{◌≡◌, refl, sym, ap, ◌∙◌}
+use mathlib.Core.List.{List}
 use Rattle.std.specs.Prelude.{ℤ, Option, Result, Ok, Err, ⊤}
+use Rattle.std.specs.Borrow.{Bor}
 use lib.Dec.{eqb}
 use Rattle.machine.specs.Choice.{pick}
 use Rattle.wire.specs.Numbers.{added}
-use Rattle.wire.specs.Table.{fault_of}
+use Rattle.wire.specs.Table.{fault_of, front}
 use Rattle.wire.specs.Lookup.{chosen, set_of}
+use Rattle.wire.specs.Walk.{front_of, Begun}
+use Rattle.wire.specs.declared.records.Entry.{Entry}
+use Rattle.wire.specs.declared.records.Broken.{Broken}
+use Rattle.wire.specs.declared.records.Records.{Records}
 use Rattle.wire.specs.declared.table.Fault.{Fault}
 use Rattle.wire.specs.declared.table.Fault.TheVariants.{Version, Length, Count, Window, Flags, Name}
 
@@ -39,3 +47,9 @@ answered (Err Name) = refl
 
 pub same_checked : (a b : Result ⊤ Fault) → fault_of a ≡ fault_of b → a ≡ b
 same_checked a b e = sym (answered a) ∙ ap answer_of e ∙ answered b
+
+pub same_front : (t : List ℕ) (a b : Result (Option (Entry × Bor (List ℕ))) Broken) → front_of a ≡ front t → front_of b ≡ front t → front_of a ≡ front_of b
+same_front t a b e f = e ∙ sym f
+
+pub same_walk : (t : List ℕ) (a b : Records) → Begun a t → Begun b t → (a.left ≡ b.left) × (a.bytes.now ≡ b.bytes.now)
+same_walk t a b x y = (x.0 ∙ sym y.0, x.1 ∙ sym y.1)

@@ -2,9 +2,10 @@
 --   seen e         the record that an entry of the code stands for
 --   front_of f     what the code's answer f stands for, as Table.antt has it
 --   due w          the records that a walk has before it
+--   Begun w t      the walk w stands before the first record of the table t
 --   has_all r i bs   the record's name has those bytes from the place i on
 --   sieve, share, passed   a set that is made record by record: before the first, what one adds, and after it
-use Rattle.std.specs.Prelude.{ℕ, suc, ◌+◌, ◌*◌, ◌/◌, ◌%◌, Bool, true, List, [], ◌∷◌, eqb, Option, Some, None, Result, Ok, Err}
+use Rattle.std.specs.Prelude.{ℕ, suc, ◌+◌, ◌*◌, ◌/◌, ◌%◌, ◌≡◌, Bool, true, List, [], ◌∷◌, drop, eqb, Option, Some, None, Result, Ok, Err}
 use Rattle.std.specs.Borrow.{Bor}
 use Rattle.machine.specs.Choice.{pick, both}
 use Rattle.wire.specs.Table.{Record, Front, nothing, broken, entry, records_in}
@@ -28,6 +29,9 @@ due w = records_in w.left w.bytes.now
 abbrev pub has_all : Record → ℕ → List ℕ → Bool
 has_all r i [] = true
 has_all r i (b ∷ bs) = both (has r i b) (has_all r (suc i) bs)
+
+abbrev pub Begun : Records → List ℕ → Type 0
+Begun w t = (w.left ≡ 32) × (w.bytes.now ≡ drop 1 t)
 
 -- ---- the set: what is known of it, the digits of the old one that are left, and the weight of the next
 abbrev pub sieve : ℕ → Sieve

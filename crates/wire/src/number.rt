@@ -17,6 +17,7 @@ pub fn clamp_usize_to_u32(x: usize) -> u32
 }
 
 // The position p moved by d. An i64 that leads back is negated; the lowest has no negation in its type and is refused.
+#[tactic(auto, unfolding(crate::specs::Numbers::added))]
 pub fn checked_add_i64(p: u64, d: i64) -> Option<u64>
     ensures { result ≡ added p d }
 {

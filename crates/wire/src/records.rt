@@ -2,7 +2,7 @@
 ghost use Rattle.std.specs.Prelude.{◌≡◌, ◌≤◌, length};
 ghost use Rattle.std.specs.Iterator.{YieldsFirstBy, item_count};
 ghost use Rattle.wire.specs.Table.{record_of, front, records};
-ghost use Rattle.wire.specs.Walk.{seen, front_of, due};
+ghost use Rattle.wire.specs.Walk.{seen, front_of, due, Begun};
 
 use crate::fields;
 use crate::table::{Export, MAX_RECORDS};
@@ -65,6 +65,7 @@ impl<'a> Records<'a> {
     pub fn of(table: &'a [u8]) -> Records<'a>
         ensures all { due result ≡ records table.now }
         ensures few { length (due result) ≤ 32 }
+        ensures begun { Begun result table.now }
     {
         Records {
             bytes: table.get(1..).unwrap_or(&[]),

@@ -16,12 +16,12 @@ advance-r-requires c = lasts (accepted (length c.args.lent.now) c.args.self (sym
 pub canonical-requires : goal.canonical-requires
 canonical-requires c =
     let a = c.args in
-    let e = c.advance-r.result.state in
+    let e = c.advance-r.result.state.client in
     used_fits _ e.phase e.head (search rules) (sound c.advance-r.ensures.goes.moves (accepted (length a.lent.now) a.self (sym c.in_default.ensures)))
 
 pub returns : goal.returns
 returns c =
-    let end = c.advance-r.result.state in
+    let end = c.advance-r.result.state.client in
     let told = c.outcome_of.ensures end.head in
     record {
       refuses = λ z. absurd (z (sym c.in_default.ensures));

@@ -15,7 +15,7 @@ advance-r-requires c = lasts (accepted c.args.table.now (length c.args.image.now
 
 pub canonical-state-requires : goal.canonical-state-requires
 canonical-state-requires c =
-    let s = c.advance-r.result.state in
+    let s = c.advance-r.result.state.server in
     let g = accepted c.args.table.now (length c.args.image.now) c.args.self (sym c.in_default.ensures) in
     used_fits s.head (search rules) s.phase (next_good c.advance-r.ensures.goes.moves g).within
 
@@ -23,7 +23,7 @@ pub returns : goal.returns
 returns c =
     let t = c.canonical-state.ensures in
     let fine = sym c.in_default.ensures in
-    let v = stands_for (view c.advance-r.result.state) (next_good c.advance-r.ensures.goes.moves (accepted c.args.table.now (length c.args.image.now) c.args.self fine)).within t in
+    let v = stands_for (view c.advance-r.result.state.server) (next_good c.advance-r.ensures.goes.moves (accepted c.args.table.now (length c.args.image.now) c.args.self fine)).within t in
     record {
       refuses = λ z. absurd (z fine);
       accepts = λ _. record { steps = rw v c.advance-r.ensures; one_struct = t ∙ ap code (sym v); outcome = c.outcome_of-outcome.ensures; number = ap number_of c.outcome_of-outcome.ensures ∙ numbered (view c.canonical-state.result) };

@@ -1,7 +1,7 @@
 -- The phase takes what its leaf takes; an empty input is taken at once, and an ended session takes nothing.
 use borrow.Author.Rules.{rules}
 use Rattle.machine.proofs.Leaves.{absorbs_none, absorbs_idle}
-use Rattle.server.proofs.step.ServerEnd.absorb.Goals as goal
+use Rattle.server.proofs.step.absorb.Goals as goal
 
 pub returns-then-is_empty : goal.returns-then-is_empty
 returns-then-is_empty c = rw c.none.ensures (absorbs_none (search rules))

@@ -1,6 +1,6 @@
 -- The phase gives what its leaf gives; an ended session gives nothing.
 use Rattle.machine.proofs.Leaves.{emits_idle}
-use Rattle.server.proofs.step.ServerEnd.emit.Goals as goal
+use Rattle.server.proofs.step.emit.Goals as goal
 
 pub returns-in-Shaking : goal.returns-in-Shaking
 returns-in-Shaking c = rw c.in-Shaking.is (c.emit.ensures _ _)
